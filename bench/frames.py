@@ -1,9 +1,10 @@
 #!/usr/bin/python3
-"""Frames a second of Play with 300 agents in chromium, and the milliseconds of a processor that the page takes for each frame.
+"""Frames a second of Play with 300 agents in chromium, and the milliseconds of a processor that the page takes for
+each frame.
 
 Run from anywhere: /usr/bin/python3 bench/frames.py [--short] [--write]. With --write the table goes into
-docs/develop/performance.md. Frames are counted by requestAnimationFrame. Processor time is that of the page's main thread, by
-chromium's own figures. The browser has no window and draws by software.
+docs/develop/performance.md. Frames are counted by requestAnimationFrame. Processor time is that of the page's main
+thread, by chromium's own figures. The browser has no window and draws by software.
 """
 
 from __future__ import annotations
@@ -15,7 +16,7 @@ from statistics import median
 TOP = Path(__file__).resolve().parents[1]
 sys.path.insert(0, str(TOP))
 
-from bench.common import IS_SHORT, WORDS, write_between  # noqa: E402
+from common import IS_SHORT, WORDS, write_between  # noqa: E402
 from tests.workbench.browsing import Page  # noqa: E402
 from tests.workbench.frames import FASTEST, begin, measured  # noqa: E402
 from tests.workbench.serving import Server  # noqa: E402

@@ -1,8 +1,8 @@
 """The workbench: reads, writes, explains and finds what the proved program certifies.
 
-Nothing here is proved, and nothing here decides: a verdict comes from the program. `import hurleyoak` gives the library:
-`load`, `Protocol`, `check`, `compile`, `find`, `refute`, `simulate`, `sweep`, `explain`, and the faults `NotBuilt` and
-`InputFault`; docs/reference/library.md describes them.
+Nothing here is proved, and nothing here decides: a verdict comes from the program. `import hurleyoak` gives the
+library: `load`, `Protocol`, `check`, `compile`, `find`, `refute`, `simulate`, `sweep`, `explain`, and the faults
+`NotBuilt` and `InputFault`; docs/reference/library.md describes them.
 """
 from __future__ import annotations
 

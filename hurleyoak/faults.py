@@ -7,8 +7,8 @@ from .statuses import REFUSED
 class InputFault(Exception):
     """An input cannot be used; the text is for its author, over as many lines as it takes.
 
-    Where a place of the input is at fault, `line` and `column` name it, counted from 1, `sentence` says what is wrong there, and
-    `quoted` is the line; else `line` is 0.
+    If a place of the input is at fault, `line` and `column` name it, counted from 1. `sentence` says what is wrong
+    there, and `quoted` is the line. Otherwise `line` is 0.
     """
 
     status = REFUSED
@@ -19,5 +19,9 @@ class InputFault(Exception):
         self.sentence = sentence or text
 
 
-class UsageFault(Exception):
-    """The words of a command mean nothing; the text says what it takes."""
+class AskFault(Exception):
+    """What is asked for can't be done; `told` says why, and what can be asked."""
+
+    def __init__(self, told: str) -> None:
+        super().__init__(told)
+        self.told = told

@@ -11,7 +11,8 @@ LEAST_WIDTH = 40
 
 
 def say(lines: Sequence[str]) -> None:
-    """The first line with the tool's name, the others below it; on a terminal they are wrapped, and quoted lines are not."""
+    """The first line with the tool's name, the others below it; on a terminal they are wrapped, and quoted lines are
+    not."""
     width = shutil.get_terminal_size().columns - 1 if sys.stderr.isatty() else 0
     for number, line in enumerate(lines):
         lead = BELOW if number else LEAD

@@ -17,7 +17,8 @@ _MODES = {STANDARD_INPUT: os.O_RDONLY, STANDARD_OUTPUT: os.O_RDONLY, STANDARD_ER
 
 
 class Shown(TextIOWrapper):
-    """A stream for people: what would steer the terminal is written by its number, and so is what its alphabet lacks."""
+    """A stream for people: what would steer the terminal is written by its number, and so is what its alphabet
+    lacks."""
 
     def __init__(self, buffer: BinaryIO, encoding: str, is_line_buffered: bool) -> None:
         super().__init__(buffer, encoding, errors="backslashreplace", newline="\n", line_buffering=is_line_buffered)

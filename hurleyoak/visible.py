@@ -3,7 +3,8 @@ from __future__ import annotations
 
 import re
 
-# control characters but line feed and tab, those of the upper half, and what turns the direction of writing or is a line's end
+# control characters but line feed and tab, those of the upper half, and what turns the direction of writing or is a
+# line's end
 _HIDDEN = re.compile(
     "[\x00-\x08\x0b-\x1f\x7f-\x9f\u061c\u200b-\u200f\u2028-\u202e\u2060-\u206f\ufeff\ufff9-\ufffb\ud800-\udfff]"
 )

@@ -1,4 +1,5 @@
-"""The one reader of numbers: digits of ASCII alone, as many as there are, without work that grows with their square."""
+"""The one reader of numbers: digits of ASCII alone, as many as there are, without work that grows with their
+square."""
 from __future__ import annotations
 
 import re

@@ -47,7 +47,8 @@ class Progress:
         self.tick()
 
     def has_all_but(self, crates: Sequence[str]) -> bool:
-        """Whether the toolchain has spoken of all crates below the main one but these; what it leaves undone the last command does."""
+        """Whether the toolchain has spoken of all crates below the main one but these; what it leaves undone the last
+        command does."""
         return bool(self.below) and not self.below - set(self.seen) - set(crates) and len(self.below) > len(crates)
 
     def tick(self) -> None:
@@ -69,8 +70,8 @@ def _run(
 ) -> None:
     """Runs the toolchain; with `until`, up to the moment at which no crates but these are left."""
     try:
-        # (the toolchain's command is Python's, and keeps its lines back where nobody asks for them; it has the lock too, so that who
-        # ends this process alone leaves no second build beside the first)
+        # (the toolchain's command is Python's, and keeps its lines back where nobody asks for them; it has the lock
+        # too, so that who ends this process alone leaves no second build beside the first)
         told = {**os.environ, "PYTHONUNBUFFERED": "1"}
         run = subprocess.Popen(
             words,
@@ -120,7 +121,8 @@ def build() -> int:
     except OSError as error:
         say(
             [
-                f"{error.filename or LOCK}: {error.strerror}; the program can be built by who may write there, or POP_MAIN names one"
+                f"{error.filename or LOCK}: {error.strerror}; build it as a user who may write there, or name a"
+                " program by POP_MAIN"
             ]
         )
         return NOT_BUILT
@@ -148,7 +150,8 @@ def _build(lock: Lock) -> int:
     log: list[str] = []
     progress = Progress()
     jobs = ["--jobs", str(os.cpu_count() or 1)]
-    # (all processors on the crates below, where no other is ready; then one for each crate; then all on those above, one after the other)
+    # (all processors on the crates below, where no other is ready; then one for each crate; then all on those above,
+    # one after the other)
     if BOTTOM.exists():
         _run(["rt", "check", *jobs], BOTTOM, log, progress, lock)
     _run(["rt", "all", "check", *jobs], MAIN, log, progress, lock, TOPMOST)

@@ -34,7 +34,7 @@ def program_told() -> str:
     """Which program answers, and whether it is that of the sources."""
     named = os.environ.get(VARIABLE)
     if named:
-        return f"the program is {named}, by {VARIABLE}; of which sources it is isn't known"
+        return f"the program is {named}, by {VARIABLE}; it isn't known from which sources it was built"
     if os.access(STANDING, os.X_OK) and is_held():
         return "the program that stood before answers while a build goes on"
     if not os.access(BUILT, os.X_OK):

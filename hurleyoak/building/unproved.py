@@ -1,4 +1,5 @@
-"""Runs the program before anything is proved. The toolchain builds it to try it; it is kept, by the checksum of its sources."""
+"""Runs the program before anything is proved. The toolchain builds it to try it; it is kept, by the checksum of its
+sources."""
 from __future__ import annotations
 
 import os

@@ -165,7 +165,8 @@ def run_request(request: Request, asked: Asked) -> int:
 
 
 def say_certified(asked: Asked) -> None:
-    """The net and the predicate that the program says it has certified, which the workbench made of a file by names."""
+    """The net and the predicate that the program says it has certified, which the workbench made of a file by
+    names."""
     from ..show.told.certified import certified_told
 
     shown = ask(["show"], asked.text().encode("utf-8", "surrogateescape"), passes=False)
@@ -174,7 +175,8 @@ def say_certified(asked: Asked) -> None:
 
 
 def with_steps(asked: Asked) -> Printed:
-    """What `play` prints, below the crowds and moves that lead there, which are the workbench's own; they end as the program says."""
+    """What `play` prints, below the crowds and moves that lead there, which are the workbench's own; they end as the
+    program says."""
     from ..show.steps import steps_told
 
     printed = ask(asked.words, asked.text().encode("utf-8", "surrogateescape"), passes=False)
@@ -193,15 +195,18 @@ def summary(data: bytes, command: str) -> bytes:
     if len(lines) <= SHORT_LINES or b"end" not in lines:
         return data
     end = len(lines) - 1 - lines[::-1].index(b"end")
-    told = f"({end:,} lines of a journal, {len(data):,} bytes: `pop {command} .. -o FILE` writes it, `| less` shows it; its end:)\n"
+    told = (
+        f"({end:,} lines of a journal, {len(data):,} bytes: `pop {command} .. -o FILE` writes it, `| less` shows it;"
+        " its end:)\n"
+    )
     return told.encode() + b"\n".join(lines[end + 1 :])
 
 
 def tell(arguments: list[str]) -> int:
     """Tells of a status with which the program's own words ended over standard input.
 
-    Usage is told from the words. Where standard input is a file, it is read once more. What `check` printed stands in the
-    environment; of other commands the program is asked once more.
+    Usage is told from the words. Where standard input is a file, it is read once more. What `check` printed stands in
+    the environment; of other commands the program is asked once more.
     """
     if len(arguments) < 2 or not is_whole(arguments[0]):
         return refuse_words(["--tell", *arguments], "")

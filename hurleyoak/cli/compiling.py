@@ -15,7 +15,8 @@ WAYS = {"--succinct": Way.SUCCINCT, "--plain": Way.PLAIN, "--flocks": Way.FLOCKS
 
 
 def way_of(request: Request) -> tuple[Way, Helpers]:
-    """Whose leaves are asked for, and whether helpers may stand in them; WordFault where the words don't go together."""
+    """Whose leaves are asked for, and whether helpers may stand in them; WordFault where the words don't go
+    together."""
     ways = [WAYS[word] for word in request.options if word in WAYS]
     if len(ways) > 1:
         raise WordFault("`--succinct`, `--plain` and `--flocks` exclude each other")

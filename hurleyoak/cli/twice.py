@@ -13,7 +13,8 @@ SECOND = TOP / "bin" / "recheck"
 
 
 def told_twice(bundle: str, printed: Printed) -> int:
-    """The program's status where the second checker says the same of the bundle, or isn't asked; DIFFERS where it says another thing."""
+    """The program's status where the second checker says the same of the bundle, or isn't asked; DIFFERS where it says
+    another thing."""
     if printed.status not in (DONE, REJECTED):
         say(["the second checker wasn't asked: it is for bundles that the program reads"])
         return printed.status

@@ -1,8 +1,8 @@
 """The flock a(1)*x(1) + .. >= c without helpers, for coefficients that are 0, powers of two, or at least c.
 
-Two that are worth the same power of two join. An agent that has the greatest power in c collects the other powers of c,
-the greatest first: it is a prefix. Two agents that are worth c or more together become two full ones, and a full one
-turns all others.
+Two that are worth the same power of two join. An agent that has the greatest power in c collects the other powers of
+c, the greatest first: it is a prefix. Two agents that are worth c or more together become two full ones, and a full
+one turns all others.
 """
 from __future__ import annotations
 

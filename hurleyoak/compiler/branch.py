@@ -12,13 +12,13 @@ from .drafts import LeafDraft
 class Says(Enum):
     """What a fact says; most are said of one state."""
 
-    FLOW = "so many agents have come to the state and are there"
+    FLOW = "as many agents came to the state as are there"
     AGENTS = "there are two agents"
     PREDICATE = "the predicate's value, closed"
-    WRONG = "somebody has the wrong output"
+    WRONG = "an agent has the wrong output"
     VALUE = "the predicate's value, opened"
-    HERE = "somebody is in the state"
-    ABSENT = "nobody is in the state"
+    HERE = "an agent is in the state"
+    ABSENT = "no agent is in the state"
     SINGLE = "at most one agent is in the state, said by a twin"
     ALONE = "at most one agent is in the state, as it is present"
     LEAVES = "a move has left the set"
@@ -26,13 +26,13 @@ class Says(Enum):
     UNUSED = "no agent of the variable was there"
     EMPTY = "the set is empty at the end"
     HELPED = "no helper starts in the set"
-    SOME = "somebody is in the set at the end"
+    SOME = "an agent is in the set at the end"
     ENTERS = "a move has entered the set"
-    STARTS = "somebody started in the set"
+    STARTS = "an agent started in the set"
     ABOVE = "the sum is above the number"
     EQUAL = "the sum is the number"
     BELOW = "the sum is below the number"
-    HUB = "somebody is in the first trap"
+    HUB = "an agent is in the first trap"
 
 
 Fact = tuple[Says, int]

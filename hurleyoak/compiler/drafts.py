@@ -72,4 +72,6 @@ class LeafDraft:
 
     def leaf(self) -> Leaf:
         """The leaf as it is now."""
-        return Leaf(tuple(self.states), tuple(self.moves), tuple(self.inputs), tuple(self.outputs), tuple(self.helpers))
+        return Leaf(
+            tuple(self.states), tuple(self.moves), tuple(self.inputs), tuple(self.outputs), tuple(self.helpers)
+        )

@@ -1,8 +1,8 @@
 """The leaf of an atom whose coefficients have one sign, a(1)*x(1) + .. >= c with all a >= 0: a flock with weights.
 
-An agent is worth nothing or a power of two; two that are worth the same join. What is worth 2^k, the least power that is
-at least c, turns all others into itself. Helpers are worth 2^k - c together. A coefficient that is no power of two is
-given off to agents that are worth nothing, the greatest power first.
+An agent is worth nothing or a power of two; two that are worth the same join. What is worth 2^k, the least power that
+is at least c, turns all others into itself. Helpers are worth 2^k - c together. A coefficient that is no power of two
+is given off to agents that are worth nothing, the greatest power first.
 """
 from __future__ import annotations
 

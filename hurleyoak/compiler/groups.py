@@ -24,7 +24,8 @@ def groups_of(leaf: Leaf) -> dict[str, list[int]]:
 
 
 def _digits_of(leaf: Leaf) -> dict[str, list[int]]:
-    """The groups of a counter: the hub, each digit with the place that it counts, and agents that still add or follow."""
+    """The groups of a counter: the hub, each digit with the place that it counts, and agents that still add or
+    follow."""
     found = {q: match for q, name in enumerate(leaf.states) if (match := _DIGIT.fullmatch(name))}
     places = sorted({int(match[1]) for match in found.values()})
     if not places or places != list(range(len(places))) or not set(HUBS) <= set(leaf.states):

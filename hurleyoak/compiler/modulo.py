@@ -1,11 +1,11 @@
 """The leaf of `sum = r mod m` with O(log m) states: a counter of digits, kept by helpers.
 
-An agent of a variable is a token (v, i) that still has to add v*W(i), W(i) being the place of digit i; coefficients are
+An agent of a variable is a token (v, i) that still has to add v*W(i). W(i) is the place of digit i. Coefficients are
 taken from 0 to m - 1. Where it has passed all digits with a carry, W, it comes back as a token of the value W - m. As
 W < 2*m, the counter shows m - 1 just where the sum is m - 1 modulo m, and it starts at m - 1 - r. A helper whose digit
-isn't that of m - 1 turns the hub to false. One that comes to its right digit is fresh, and turns the hub to true once. So
-at the end a hub of true has no wrong digit beside it, and where all digits are right the last who was fresh left a hub of
-true. The hub turns the answers of all others.
+isn't that of m - 1 turns the hub to false. One that comes to its right digit is fresh, and turns the hub to true once.
+So at the end a hub of true has no wrong digit beside it, and where all digits are right the last who was fresh left a
+hub of true. The hub turns the answers of all others.
 """
 from __future__ import annotations
 

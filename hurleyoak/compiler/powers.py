@@ -1,11 +1,11 @@
 """The leaf of `a(1)*x(1) + .. < c` with both signs and about three states for each bit.
 
-An agent is worth a power of two or nothing; two that are worth the same join, up to W = 2^k, a plus. Nobody but the hub
-is worth less than nothing for good: the hub is worth 0 or -W. An agent of a variable with a negative coefficient -a, a
-debtor, waits for somebody who is worth more than a, or for a hub of 0, and takes what it owes: together with 2^i it
-becomes 2^i - a and nothing, with a hub of 0 it becomes W - a and makes the hub -W. What is no power of two is given off
-to agents that are worth nothing, the greatest power first: such an agent is a token. So at the end a hub of -W has no
-plus beside it, and a hub of 0 no debtor: the sign of the sum is the hub's. The hub turns the answers of all others.
+An agent is worth a power of two or nothing; two that are worth the same join, up to W = 2^k, a plus. Only the hub is
+worth less than nothing for good: it is worth 0 or -W. An agent of a variable with a negative coefficient -a is a
+debtor. It waits for an agent that is worth more than a, or for a hub of 0, and takes what it owes. Together with 2^i
+it becomes 2^i - a and nothing. With a hub of 0 it becomes W - a and makes the hub -W. What is no power of two is given
+off to agents that are worth nothing, the greatest power first: such an agent is a token. So at the end a hub of -W has
+no plus beside it, and a hub of 0 no debtor: the sign of the sum is the hub's. The hub turns the answers of all others.
 
 The sum may be taken with the other sign, which exchanges the two answers: `sum < c` is the denial of `-sum < 1 - c`.
 """
@@ -84,7 +84,7 @@ def _started(k: int, low_output: bool) -> Powers:
     }
     plus = draft.state(PLUS, not low_output, 1 << k)
     draft.spare = nothing[False]
-    return Powers(draft, k, low_output, low, high, plus, nothing, power)
+    return Powers(draft=draft, k=k, low_output=low_output, low=low, high=high, plus=plus, nothing=nothing, power=power)
 
 
 def _join(it: Powers) -> None:
@@ -119,7 +119,8 @@ def _give_off(it: Powers) -> None:
 
 
 def _tell(it: Powers) -> None:
-    """The hubs meet each other and the plus, and turn the answers; debtors and pluses help with those worth nothing."""
+    """The hubs meet each other and the plus, and turn the answers; debtors and pluses help with those worth
+    nothing."""
     move, sayers = it.draft.move, it.sayers
     move(it.plus, it.low, it.nothing[False], it.high)
     move(it.low, it.high, it.low, it.nothing[False])
@@ -138,7 +139,8 @@ def range_of(coefficients: tuple[int, ...], bound: int) -> int:
 
 
 def powers_leaf(atom: Less, turned: bool = False) -> Powers:
-    """The leaf, of the sum or of the sum with the other sign; NotBuilt where the bound is above the greatest multiplier."""
+    """The leaf, of the sum or of the sum with the other sign; NotBuilt where the bound is above the greatest
+    multiplier."""
     coefficients, bound = atom.coefficients, atom.bound
     if turned:
         coefficients, bound = tuple(-a for a in coefficients), 1 - bound

@@ -1,7 +1,7 @@
 """The proof of the leaf of powers: three layers, and two trees of one shape for all coefficients.
 
-First the sum, which knows nothing of answers; then a hub of -W turns answers one way, then a hub of 0 the other way. The
-two hubs are a trap which no move leaves, and which one is there at the end says the sign of the sum.
+First the sum, which knows nothing of answers; then a hub of -W turns answers one way, then a hub of 0 the other way.
+The two hubs are a trap which no move leaves, and which one is there at the end says the sign of the sum.
 """
 from __future__ import annotations
 

@@ -45,6 +45,6 @@ def worths_told(leaf: Leaf) -> Iterator[str]:
         return
     yield "no move changes the sum of what the agents are worth:"
     yield f"  N {worth['N']}, O 0 and P {worth['P']}; 2^i is worth 2^i, and a number is worth itself"
-    yield "  f and t behind a worth are the two answers; N turns f to t, and O turns t to f"
+    yield "  f and t after a worth are the two answers; N turns f to t, and O turns t to f"
     if any(value < 0 for name, value in worth.items() if name != "N"):
-        yield "  a number below 0 is a debtor, which waits for somebody who is worth more"
+        yield "  a number below 0 is a debtor, which waits for an agent that is worth more"

@@ -8,7 +8,8 @@ from typing import Sequence
 
 from ..compiler.drafts import NotBuilt
 from ..compiler.whole import Compiled, Helpers, compiled
-from ..protocol.predicates import canonical_text, read_predicate
+from ..protocol.predicatereader import read_predicate
+from ..protocol.predicates import canonical_text
 from ..statuses import DONE
 from .program import Answer, ask, check
 

@@ -1,4 +1,5 @@
-"""Makes the program's input of a file and words: one line each for the net or bundle, the crowd, the predicate, the meetings."""
+"""Makes the program's input of a file and words: one line each for the net or bundle, the crowd, the predicate, the
+meetings."""
 from __future__ import annotations
 
 import os
@@ -7,7 +8,9 @@ from typing import Any
 
 from ..text.cautions import cautions, slow_pairs
 from ..faults import InputFault
-from ..text.files import ASSUMES, READ_AS, STANDARD_INPUT, load_pop, read_text, strict_bundle
+from ..text.files import ASSUMES, STANDARD_INPUT, load_pop, read_text
+from ..text.given import READ_AS
+from ..text.loaded import strict_bundle
 from ..text.jsontext import DECODER
 from ..protocol.nets import VARIABLE_LIMIT, FormatFault, compact, is_variable_name, net_of
 from ..proof.bundles import bundle_of
@@ -23,8 +26,8 @@ PLAYS, CHECKS = "play", "check"
 class Asked:
     """What the program is asked: its words and the lines of its input.
 
-    `names` says for a reader where each line comes from; `original` is the text of the JSON where its lines were joined;
-    `is_by_names` says that the bundle was made of a `.pop` file; `notes` are what was read otherwise than it stands.
+    `names` says for a reader where each line comes from. `original` is the text of the JSON if its lines were joined.
+    `is_by_names` says that the bundle was made of a `.pop` file. `notes` say what was read in another form.
     """
 
     words: list[str]
@@ -78,7 +81,7 @@ def _read(path: str, asked: Asked) -> str:
     if not path:
         raise InputFault("the file's name is empty")
     if path != STANDARD_INPUT and os.path.isdir(path):
-        raise InputFault(f"{path} is a folder; a file is wanted")
+        raise InputFault(f"{path} is a folder; give a file")
     text = read_text(path)
     if "\r\n" in text:
         asked.notes.append(f"{asked.file} has lines that end in CR and LF; they were read as LF alone")
@@ -87,7 +90,8 @@ def _read(path: str, asked: Asked) -> str:
 
 
 def _cautions(value: Any, command: str) -> list[str]:
-    """What is probably not meant of a net, or of a bundle's; nothing of one that is malformed, which the program tells."""
+    """What is probably not meant of a net, or of a bundle's; nothing of one that is malformed, which the program
+    tells."""
     try:
         told = cautions(net_of(value.get("net", value)))
         return told + slow_pairs(bundle_of(value)) if command == CHECKS else told
@@ -178,7 +182,8 @@ def _variables(value: Any, asked: Asked) -> list[str]:
         isinstance(name, str) and is_variable_name(name) for name in names
     ):
         raise InputFault(
-            f"fault: format /net/vars {'name' if names else 'kind'}\n{asked.file}: /net/vars has to be a list of 1 to {VARIABLE_LIMIT} names of variables"
+            f"fault: format /net/vars {'name' if names else 'kind'}\n{asked.file}: /net/vars has to be a list of 1 to"
+            f" {VARIABLE_LIMIT} names of variables"
         )
     return names
 
@@ -220,12 +225,10 @@ def make_input(request: Request) -> Asked:
     if behind and (request.counts or request.meetings):
         if not request.counts:
             raise WordFault(
-                f"meetings are given, and {asked.file} has a crowd line of its own: give the counts too, "
-                f"as in x=2 y=1"
+                f"meetings are given, and {asked.file} has a crowd line of its own: give the counts too, as in x=2 y=1"
             )
         asked.notes.append(
-            f"{asked.file} has {len(behind)} more {'lines' if len(behind) > 1 else 'line'}; the words "
-            f"stand in their place"
+            f"{asked.file} has {len(behind)} more {'lines' if len(behind) > 1 else 'line'}; the words are used instead"
         )
         behind = []
     for line in behind:

@@ -37,7 +37,8 @@ class Lock:
         return self.file.fileno()
 
     def acquire(self) -> bool:
-        """Takes the lock if no build has it, and notes who has it; those who only ask whether it is held are waited for."""
+        """Takes the lock if no build has it, and notes who has it; those who only ask whether it is held are waited
+        for."""
         for _ in range(PROBES):
             try:
                 fcntl.flock(self.file, fcntl.LOCK_EX | fcntl.LOCK_NB)
@@ -75,7 +76,10 @@ def holder() -> str:
     since = min(whole_of(words[2]), int(time.time()))
     minutes = int(time.time() - since) // MINUTE
     clock = datetime.fromtimestamp(since).strftime("%H:%M")
-    return f"process {words[0]} of {words[1]} has been building since {clock}, for {minutes} {'minute' if minutes == 1 else 'minutes'}"
+    return (
+        f"process {words[0]} of {words[1]} has been building since {clock}, for"
+        f" {minutes} {'minute' if minutes == 1 else 'minutes'}"
+    )
 
 
 def is_held() -> bool:

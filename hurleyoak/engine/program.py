@@ -63,7 +63,8 @@ def ended(status: int) -> int:
 
 
 def program_path() -> str:
-    """The program: what POP_MAIN names, else the one that stands while a build goes on, else the built one, else bin/pop, which builds it."""
+    """The program: what POP_MAIN names, else the one that stands while a build goes on, else the built one, else
+    bin/pop, which builds it."""
     named = os.environ.get(VARIABLE)
     if named:
         if not os.access(named, os.X_OK):
@@ -84,7 +85,8 @@ def program_path() -> str:
 def ask(words: list[str], text: str, seconds: float | None = None) -> Answer:
     """Runs the program with these words over a text.
 
-    NoProgram where there is none; EndedBySignal where a signal ended it; subprocess.TimeoutExpired where it takes longer than `seconds`.
+    NoProgram where there is none; EndedBySignal where a signal ended it; subprocess.TimeoutExpired where it takes
+    longer than `seconds`.
     """
     path = program_path()
     # (bin/pop says on standard error that it builds the program first)

@@ -69,7 +69,8 @@ def newer_source() -> Path | None:
 
 
 def is_of_sources() -> bool:
-    """Whether the built program is there and that of the sources: by checksum where its build was noted, else by time."""
+    """Whether the built program is there and that of the sources: by checksum where its build was noted, else by
+    time."""
     if not os.access(BUILT, os.X_OK):
         return False
     noted, _, stamp = RECORD.read_text().strip().partition(" ") if RECORD.exists() else ("", "", "")

@@ -7,8 +7,9 @@
     majority.simulate(x=30, y=10).output   # True
     hurleyoak.compile("x - y < 1000").check()
 
-No call builds the program: where it isn't there, NotBuilt is raised. Agents and meetings are numbers, times are meetings
-divided by agents, seconds are of the clock. Inputs that can't be used raise InputFault, with a text for their author.
+No call builds the program: where it isn't there, NotBuilt is raised. Agents and meetings are numbers, times are
+meetings divided by agents, seconds are of the clock. Inputs that can't be used raise InputFault, with a text for their
+author.
 """
 from __future__ import annotations
 

@@ -10,16 +10,19 @@ from ..engine import program
 from ..engine.compiling import Way, make_bundle
 from ..engine.places import BY_SCRIPT
 from ..engine.program import NoProgram
-from ..faults import InputFault, UsageFault
+from ..faults import AskFault, InputFault
 from ..protocol.nets import Net
-from ..protocol.predicates import read_predicate, value_at
+from ..protocol.predicatereader import read_predicate
+from ..protocol.predicates import value_at
 from ..simulation.carrying import Limits, carry_out
 from ..simulation.crowds import counts_of, crowd_words
 from ..simulation.curves import Recorder
 from ..simulation.seeds import seed_of
 from ..simulation.simulation import ENDLESS, Simulation, Stop
 from ..simulation.sweepjobs import BY_SIMULATE, mark_of
-from ..text.files import Loaded, LoadedBundle, load_path, strict_bundle, with_predicate
+from ..text.files import load_path
+from ..text.given import with_predicate
+from ..text.loaded import Loaded, LoadedBundle, strict_bundle
 from ..text.files import load as load_text
 from ..text.relaxed import in_form
 from ..text.writer import text_of
@@ -114,7 +117,8 @@ class Protocol:
         return Found(protocol, verdict, None, verdict.line)
 
     def refute(self, agents: int = AGENTS, seconds: float = SECONDS) -> Refuted | None:
-        """A counterexample among all inputs of up to so many agents, played by the program; None where there is none."""
+        """A counterexample among all inputs of up to so many agents, played by the program; None where there is
+        none."""
         _ready()
         from ..search.explore import explore
         from ..search.whole import system_of
@@ -163,7 +167,9 @@ class Protocol:
         if every <= 0 or runs < 1:
             raise InputFault("the grid of an ensemble has steps above 0, and there is one run at least")
         chosen = self._counts(counts)
-        made = ensemble(self.net, chosen, seed, runs, every, ENDLESS if meetings is None else meetings, self._loaded.name)
+        made = ensemble(
+            self.net, chosen, seed, runs, every, ENDLESS if meetings is None else meetings, self._loaded.name
+        )
         by_state = {name: [[row[i] for row in rows] for rows in made.rows] for i, name in enumerate(made.names)}
         return Runs(made.times, by_state, made.agents, made.terminal)
 
@@ -196,7 +202,7 @@ class Protocol:
         """The counts of all variables; InputFault where they make no crowd."""
         try:
             return counts_of(self.net, [f"{name}={k}" for name, k in counts.items()])
-        except UsageFault as fault:
+        except AskFault as fault:
             raise InputFault(str(fault)) from None
 
     def explain(self) -> str:

@@ -13,7 +13,8 @@ if TYPE_CHECKING:
 
 @dataclass(frozen=True)
 class Verdict:
-    """The program's line on a bundle. `bound` is the number behind `certified`: steps for each agent; None if rejected."""
+    """The program's line on a bundle. `bound` is the number behind `certified`: steps for each agent; None if
+    rejected."""
 
     line: str
     certified: bool
@@ -55,7 +56,8 @@ class Found:
 
 @dataclass(frozen=True, kw_only=True)
 class Run:
-    """A simulated run. `crowd` has the number of agents for each state at the end; `agreed` is the meeting since which all output the same."""
+    """A simulated run. `crowd` has the number of agents for each state at the end; `agreed` is the meeting since which
+    all output the same."""
 
     crowd: dict[str, int]
     agents: int
@@ -91,7 +93,8 @@ class Run:
 
 @dataclass(frozen=True)
 class Runs:
-    """Many runs of one crowd on one grid of times. `counts[state][run][time]` are agents; a run that has ended stays as it is."""
+    """Many runs of one crowd on one grid of times. `counts[state][run][time]` are agents; a run that has ended stays
+    as it is."""
 
     times: list[float]
     counts: dict[str, list[list[int]]] = field(repr=False)
@@ -117,7 +120,7 @@ class Runs:
         rows = "".join(f"<tr><td>{escape(name)}</td><td>{self.mean(name)[-1]:,.4g}</td></tr>" for name in self.counts)
         return (
             f"<table><tr><th>state</th><th>mean at the end</th></tr>{rows}</table>"
-            f"<p>{len(self)} runs of {self.agents:,} agents, of which {self.terminal} ended; measured, not proved</p>"
+            f"<p>{len(self)} runs of {self.agents:,} agents, {self.terminal} of them ended; measured, not proved</p>"
         )
 
 

@@ -37,7 +37,8 @@ class Branch:
 
 @dataclass(kw_only=True)
 class Visit:
-    """One node, or the end of the nodes where `node` is None. The branch is as it is at this node until the next visit."""
+    """One node, or the end of the nodes where `node` is None. The branch is as it is at this node until the next
+    visit."""
 
     number: int
     node: Node | None

@@ -14,7 +14,8 @@ from ..limits import SIZE_LIMIT as SIZE_LIMIT
 from ..limits import STATE_LIMIT as SET_LIMIT
 from ..limits import STATE_LIMIT as WEIGHT_LIMIT
 from ..protocol.nets import FormatFault, Leaf, Net, compact, items, member, net_of, whole
-from ..protocol.predicates import LEAST_MODULUS, PredicateFault, read_predicate
+from ..protocol.predicatereader import read_predicate
+from ..protocol.predicates import LEAST_MODULUS, PredicateFault
 
 NUMBER_LIMIT = INDEX_COUNT - 1
 STATE_NUMBER_LIMIT = STATE_INDEX_COUNT - 1
@@ -24,7 +25,8 @@ Term = tuple[int, int]
 
 @dataclass(frozen=True)
 class Linear:
-    """Ends a branch: the sum of the facts times their multipliers cannot be at least 0. Terms are (fact, multiplier)."""
+    """Ends a branch: the sum of the facts times their multipliers cannot be at least 0. Terms are (fact,
+    multiplier)."""
 
     terms: tuple[Term, ...]
 
@@ -68,7 +70,7 @@ class Trap:
 
 @dataclass(frozen=True)
 class Siphon:
-    """A set of states that stays empty unless a move enters it or somebody starts in it."""
+    """A set of states that stays empty unless a move enters it or an agent starts in it."""
 
     states: tuple[int, ...]
 
@@ -82,7 +84,8 @@ class Open:
 
 @dataclass(frozen=True)
 class Hole:
-    """A part that is to be found; `kind` is `tree`, or `lin` or `residue` with its modulus. No file of a bundle has one."""
+    """A part that is to be found; `kind` is `tree`, or `lin` or `residue` with its modulus. No file of a bundle has
+    one."""
 
     kind: str = "tree"
     modulus: int = 0
@@ -220,7 +223,9 @@ def layer_of(value: Any, path: str) -> Layer:
     moves = items(member(value, "moves", path), f"{path}/moves", 0, LISTED_LIMIT)
     listed = tuple(whole(t, f"{path}/moves/{i}", 0, NUMBER_LIMIT) for i, t in enumerate(moves))
     weights = items(member(value, "weights", path), f"{path}/weights", 0, WEIGHT_LIMIT)
-    return Layer(listed, tuple(whole(w, f"{path}/weights/{i}", -SIZE_LIMIT, SIZE_LIMIT) for i, w in enumerate(weights)))
+    return Layer(
+        listed, tuple(whole(w, f"{path}/weights/{i}", -SIZE_LIMIT, SIZE_LIMIT) for i, w in enumerate(weights))
+    )
 
 
 def _pred(value: Any, path: str, names: Sequence[str]) -> str:

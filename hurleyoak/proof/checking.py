@@ -9,7 +9,8 @@ from typing import Iterable, Sequence
 
 from .facts import AT_LEAST, DIVIDES, EQUAL, FACT_LIMIT, HOLDS, NOT_DIVIDES, Fact, Space, cases_of
 from ..protocol.nets import Leaf, Net, pair
-from ..protocol.predicates import Predicate, read_predicate
+from ..protocol.predicatereader import read_predicate
+from ..protocol.predicates import Predicate
 from ..protocol.combining import combined_predicate
 from .bundles import Bundle, Layer, Linear, Node, Open, Residue, Term, Twin
 
@@ -18,7 +19,8 @@ PATH_LIMIT = 4_096
 
 @dataclass(frozen=True)
 class LayerFault:
-    """Where layers fail: `shape` at a layer, `no-layer` or `not-lower` at a move, `wakes` at a move and the one woken."""
+    """Where layers fail: `shape` at a layer, `no-layer` or `not-lower` at a move, `wakes` at a move and the one
+    woken."""
 
     why: str
     at: int
@@ -90,7 +92,8 @@ def agents_before(leaf: Leaf, t: int, u: int) -> list[int]:
 
 
 def wakes(leaf: Leaf, t: int, u: int, first: dict[tuple[int, int], int], at: int) -> bool:
-    """Whether move t of layer `at` can make u possible where no move of the layers before was; `first` has each pair's first layer."""
+    """Whether move t of layer `at` can make u possible where no move of the layers before was; `first` has each pair's
+    first layer."""
     agents = agents_before(leaf, t, u)
     for i, p in enumerate(agents):
         for q in agents[i + 1 :]:

@@ -1,7 +1,8 @@
 """Facts about wrong ends, and the cases that each node makes (docs/guide/certificates.md).
 
-The state equation, traps and siphons are those of Blondin, Esparza, Jaax and Meyer 2017. For a leaf with V inputs, Q states
-and T moves the variables are the inputs (0 to V-1), the end crowd's counts (V to V+Q-1) and how often each move was taken.
+The state equation, traps and siphons are those of Blondin, Esparza, Jaax and Meyer 2017. For a leaf with V inputs, Q
+states and T moves the first variables are the inputs (0 to V-1). Then come the end crowd's counts (V to V+Q-1), and
+how often each move was taken.
 """
 from __future__ import annotations
 
@@ -36,8 +37,8 @@ FACT_LIMIT = 65_536
 
 
 class Fact:
-    """One fact, compared by identity: a sum (terms and constant) that is at least 0, is 0, or is or isn't a multiple
-    of the modulus; or that a predicate has a value."""
+    """One fact, compared by identity. A sum (terms and constant) is at least 0, is 0, or is or isn't a multiple of the
+    modulus. Or a predicate has a value."""
 
     __slots__ = ("kind", "terms", "constant", "modulus", "tree", "value")
 
@@ -109,7 +110,8 @@ class Space:
         return not isinstance(node, Split) or all(a < self.variables for a, _ in node.terms)
 
     def cases(self, node: Node, most: int = 3) -> list[list[Fact]]:
-        """The facts of each case of a node other than `open`, or of the first ones alone; none at `lin` and `residue`."""
+        """The facts of each case of a node other than `open`, or of the first ones alone; none at `lin` and
+        `residue`."""
         return list(islice(self._cases(node), most))
 
     def _cases(self, node: Node) -> Iterator[list[Fact]]:

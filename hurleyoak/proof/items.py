@@ -1,4 +1,5 @@
-"""Facts as the search holds them: by identity, with arrays in place of lists, and blocks of facts that say a variable is 0.
+"""Facts as the search holds them: by identity, with arrays in place of lists, and blocks of facts that say a variable
+is 0.
 
 The cases and their order are those of `hurleyoak.proof.facts`; facts get their numbers when a tree is written out.
 """

@@ -11,7 +11,8 @@ from .facts import Space, cases_of
 from ..faults import InputFault
 from .names import Names
 from ..protocol.nets import Item, Leaf, Net
-from ..protocol.predicates import Predicate, read_predicate
+from ..protocol.predicatereader import read_predicate
+from ..protocol.predicates import Predicate
 from .bundles import Bundle, LeafProof, Linear, Node, Open, Residue, Split, Term
 
 Starts = Mapping[str, str]
@@ -86,7 +87,8 @@ def moved_tree(
 
 
 def widened(bundle: Bundle, at: int, names: Sequence[str], starts: Starts) -> tuple[Leaf, LeafProof]:
-    """A leaf over more variables, those that it lacks starting where `starts` says, with its proof; InputFault or Lost."""
+    """A leaf over more variables, those that it lacks starting where `starts` says, with its proof; InputFault or
+    Lost."""
     leaf, part, own = bundle.net.leaves[at], bundle.proof[at], bundle.net.names
     inputs = []
     for name in names:
@@ -108,7 +110,8 @@ def widened(bundle: Bundle, at: int, names: Sequence[str], starts: Starts) -> tu
 def _start(leaf: Leaf, name: str, starts: Starts, at: int) -> int:
     if name not in starts:
         raise InputFault(
-            f"variable `{name}` is in one of the two alone: say where it starts in the other, as `--start {name}=STATE`; it has {', '.join(leaf.states[:12])}"
+            f"variable `{name}` is in one of the two alone: say where it starts in the other, as `--start"
+            f" {name}=STATE`; it has {', '.join(leaf.states[:12])}"
         )
     parts = starts[name].split("/")
     state = parts[at] if at < len(parts) and len(parts) > 1 else parts[0]
@@ -130,7 +133,8 @@ def negated(bundle: Bundle) -> Bundle:
 
 
 def joined(word: str, first: Bundle, second: Bundle, starts: Starts) -> Bundle:
-    """One bundle of two, whose net says `and` or `or` of both. InputFault where they don't fit; Lost where a proof can't be kept."""
+    """One bundle of two, whose net says `and` or `or` of both. InputFault where they don't fit; Lost where a proof
+    can't be kept."""
     names = (*first.net.names, *(n for n in second.net.names if n not in first.net.names))
     counts = {len(leaf.helpers) for leaf in (*first.net.leaves, *second.net.leaves)}
     if len(counts) > 1:

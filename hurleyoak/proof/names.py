@@ -47,7 +47,8 @@ class Names:
         return f"{p} + {q} -> {r} + {s}" + (f" /{again}" if again > 1 else "")
 
     def variable(self, a: int) -> str:
-        """An input's name, `c(A)` for the agents in A at the end, `[A + B -> a + b]` for how often a move was taken."""
+        """An input's name, `c(A)` for the agents in A at the end, `[A + B -> a + b]` for how often a move was
+        taken."""
         inputs, states = len(self.variables), len(self.leaf.states)
         if a < inputs:
             return self.variables[a]
@@ -78,7 +79,8 @@ class Names:
         return [*(f"flow({self.state(q)})" for q in range(len(self.leaf.states))), "agents", "predicate", "wrong"]
 
     def cases(self, node: Node, facts: Sequence[Fact], names: Sequence[str]) -> list[tuple[str, list[str]]]:
-        """The label of each case of a node that is in range, and the names of its facts; a node's only case has no label."""
+        """The label of each case of a node that is in range, and the names of its facts; a node's only case has no
+        label."""
         if isinstance(node, Present):
             return self._present(node.state)
         if isinstance(node, Twin):

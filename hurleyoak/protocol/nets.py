@@ -51,7 +51,8 @@ def is_silent(move: Move) -> bool:
 
 @dataclass(frozen=True)
 class Leaf:
-    """One population protocol; states, moves and variables count from 0. `laws` has one for each move, or none at all."""
+    """One population protocol; states, moves and variables count from 0. `laws` has one for each move, or none at
+    all."""
 
     states: tuple[str, ...]
     moves: tuple[Move, ...]

@@ -1,4 +1,5 @@
-"""What two agents become when they meet: in the program's runs each leaf takes its first move that matches, in a simulation any of them."""
+"""What two agents become when they meet: in the program's runs each leaf takes its first move that matches, in a
+simulation any of them."""
 from __future__ import annotations
 
 from fractions import Fraction
@@ -24,7 +25,8 @@ def leaf_table(leaf: Leaf) -> dict[tuple[int, int], tuple[int, int]]:
 
 
 def _matching(leaf: Leaf) -> dict[tuple[int, int], list[int]]:
-    """For the states of the initiator and of the responder the numbers of the moves that match; silent ones if they have a chance."""
+    """For the states of the initiator and of the responder the numbers of the moves that match; silent ones if they
+    have a chance."""
     out: dict[tuple[int, int], list[int]] = {}
     for t, (p, q, _, _) in enumerate(leaf.moves):
         law = leaf.laws[t] if leaf.laws else PLAIN
@@ -36,7 +38,8 @@ def _matching(leaf: Leaf) -> dict[tuple[int, int], list[int]]:
 
 
 def too_likely(leaf: Leaf, t: int) -> bool:
-    """Whether the chances of all moves for the states of one are more than 1, or leave nothing for those without a chance."""
+    """Whether the chances of all moves for the states of one are more than 1, or leave nothing for those without a
+    chance."""
     p, q = leaf.moves[t][:2]
     found = _matching(leaf)
     for both in ((p, q), (q, p)):
@@ -52,7 +55,8 @@ Way = tuple[int, tuple[int, int], Fraction]
 
 
 def leaf_ways(leaf: Leaf) -> dict[tuple[int, int], list[Way]]:
-    """For the states of the initiator and of the responder the moves they may take, what they become, and by which chance.
+    """For the states of the initiator and of the responder the moves they may take, what they become, and by which
+    chance.
 
     Moves without a chance have equal parts of what those with one leave.
     """
@@ -108,7 +112,8 @@ class Reactions:
         return any((p, q) in table or (q, p) in table for table, p, q in zip(self.choices, first, second))
 
     def options(self, first: Word, second: Word) -> list[tuple[tuple[Word, Word], int]]:
-        """The two words after a meeting that the first one begins, each with its share as a whole number; none where nothing changes."""
+        """The two words after a meeting that the first one begins, each with its share as a whole number; none where
+        nothing changes."""
         each = [table.get((p, q)) for table, p, q in zip(self.choices, first, second)]
         if not any(each):
             return []

@@ -16,7 +16,8 @@ FINISHING = 100_000  # meetings at most that bring the other leaves to an end
 
 
 def taken_of(leaf: Leaf, point: Sequence[int]) -> dict[int, int]:
-    """How often a candidate takes each move that changes something; its numbers are those of inputs, states and moves."""
+    """How often a candidate takes each move that changes something; its numbers are those of inputs, states and
+    moves."""
     first = len(leaf.inputs) + len(leaf.states)
     return {t: point[first + t] for t in leaf.active if point[first + t]}
 
@@ -37,7 +38,17 @@ def wrong_by(
     ):
         return None
     hidden = sorted(set(moves) - first_moves(system))
-    return Flaw(WRONG, counts, end, moves, not hidden, [], size, shown_leaf(system), words_of(system), hidden)
+    return Flaw(
+        kind=WRONG,
+        counts=counts,
+        crowd=end,
+        moves=moves,
+        by_meetings=not hidden,
+        size=size,
+        leaf=shown_leaf(system),
+        words=words_of(system),
+        hidden=hidden,
+    )
 
 
 def flaw_by(leaf: Leaf, tree: Predicate, counts: tuple[int, ...], order: Order) -> Flaw | None:
@@ -50,7 +61,8 @@ def flaw_by(leaf: Leaf, tree: Predicate, counts: tuple[int, ...], order: Order) 
 
 
 def net_flaw_by(net: Net, whole: Predicate, at: int, flaw: Flaw) -> Flaw | None:
-    """The flaw of the whole net to which a leaf's way leads: the other leaves move along, and come to an end after it."""
+    """The flaw of the whole net to which a leaf's way leads: the other leaves move along, and come to an end after
+    it."""
     system = system_of(net)
     if not isinstance(system, Words):
         return wrong_by(system, whole, flaw.counts, flaw.crowd, flaw.moves, flaw.size)

@@ -1,7 +1,8 @@
-"""Programs of many columns, solved with few of them: those that were of use before, and those that the prices of the rows ask for.
+"""Programs of many columns, solved with few of them: those that were of use before, and those that the prices of the
+rows ask for.
 
-A column that stays out is 0. Where no column that is out would lower the cost, the point is the best of all; where the rows can't
-be met with the columns that are in, and none that is out would bring them nearer, they can't be met at all.
+A column that stays out is 0. If no column that is out would lower the cost, the point is the best of all. The
+columns that are in may not meet the rows. If none that is out would bring them nearer, the rows can't be met at all.
 """
 from __future__ import annotations
 

@@ -1,4 +1,5 @@
-"""The same programs in exact numbers, by z3 (Debian's python3-z3): slower, for numbers that are too great for floats."""
+"""The same programs in exact numbers, by z3 (Debian's python3-z3): slower, for numbers that are too great for
+floats."""
 from __future__ import annotations
 
 from fractions import Fraction

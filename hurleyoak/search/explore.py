@@ -186,21 +186,21 @@ def flaw_at(
     around = [] if kind == WRONG else graph.round(crowd)
     hidden = sorted(set(moves) - first_moves(leaf))
     return Flaw(
-        kind,
-        counts,
-        crowd,
-        moves,
-        by_meetings is not None,
-        around,
-        len(graph.edges),
-        shown_leaf(leaf),
-        words_of(leaf),
-        hidden,
+        kind=kind,
+        counts=counts,
+        crowd=crowd,
+        moves=moves,
+        by_meetings=by_meetings is not None,
+        round=around,
+        size=len(graph.edges),
+        leaf=shown_leaf(leaf),
+        words=words_of(leaf),
+        hidden=hidden,
     )
 
 
 def inputs_of(variables: int, agents: int) -> Iterator[tuple[int, ...]]:
-    """All inputs with so many agents beside helpers."""
+    """All inputs with so many agents plus helpers."""
     for chosen in combinations_with_replacement(range(variables), agents):
         yield tuple(chosen.count(i) for i in range(variables))
 
@@ -222,11 +222,11 @@ def explore(
     progress: Callable[[Tried, int], None] | None = None,
     meets: Callable[[tuple[int, ...]], bool] = lambda counts: True,
 ) -> tuple[Flaw | None, Tried]:
-    """The best flaw among the inputs of the fewest agents that have one, and what was tried. Crowds that are stable without
-    being silent are no flaw: the first is kept, and others are looked for.
+    """The best flaw among the inputs of the fewest agents that have one, and what was tried. Crowds that are stable
+    without being silent are no flaw: the first is kept, and others are looked for.
 
-    Without a number of agents it goes on until the time is up. An input of too many crowds is passed over, and so is one that doesn't
-    meet what is assumed.
+    Without a number of agents it goes on until the time is up. An input of too many crowds is passed over, and so is
+    one that doesn't meet what is assumed.
     """
     stop = clock() + seconds
     tried = Tried()

@@ -7,14 +7,14 @@ from importlib import import_module
 from typing import Callable, Iterator
 
 from ..faults import InputFault
-from ..text.files import Loaded, predicates_differ
+from ..text.loaded import Loaded, predicates_differ
 from ..text.proofreader import ProofDraft
 from ..proof.bundles import Bundle, LeafProof
-from .flaws import RESTLESS, Flaw
+from .flaws import Flaw
 from .howfar import Going
-from .jobs import FALSE, FLAW, LAYERS, MISSES, NO_LAYERS, TRUE, WHOLE, WRONG_END, Result, Task, results, work
+from .jobs import FALSE, FLAW, LAYERS, TRUE, WHOLE, Result, Task, Why, results, work
 
-ORDER = (MISSES, RESTLESS, NO_LAYERS, WRONG_END)  # which failure is told where there are several
+ORDER = (Why.MISSES, Why.RESTLESS, Why.NO_LAYERS, Why.WRONG_END)  # which failure is told where there are several
 
 
 @dataclass
@@ -34,14 +34,16 @@ class Outcome:
             layers, true, false = (self.done[kind, i] for kind in (LAYERS, TRUE, FALSE))
             bound = sum(layer.spread for layer in layers.layers)
             out.append(
-                f"leaf {i}: {len(layers.layers)} layer{'' if len(layers.layers) == 1 else 's'}, bound {bound} ({layers.seconds:.1f} s); "
-                f"trees of {len(true.tree)} and {len(false.tree)} nodes ({true.seconds:.1f} s, {false.seconds:.1f} s)"
+                f"leaf {i}: {len(layers.layers)} layer{'' if len(layers.layers) == 1 else 's'}, bound"
+                f" {bound} ({layers.seconds:.1f} s); trees of {len(true.tree)} and {len(false.tree)} nodes"
+                f" ({true.seconds:.1f} s, {false.seconds:.1f} s)"
             )
         return out
 
 
 def drafts_of(loaded: Loaded, anew: bool) -> list[ProofDraft]:
-    """What is written of the leaves' proofs: nothing where they are looked for anew. InputFault where it names what isn't there."""
+    """What is written of the leaves' proofs: nothing where they are looked for anew. InputFault where it names what
+    isn't there."""
     if anew or loaded.drafts is None:
         return [ProofDraft() for _ in loaded.net.leaves]
     for draft in loaded.drafts:
@@ -51,7 +53,8 @@ def drafts_of(loaded: Loaded, anew: bool) -> list[ProofDraft]:
 
 
 def tasks_of(loaded: Loaded, drafts: list[ProofDraft], seconds: float, small: float) -> list[Task]:
-    """The tasks, small crowds first, as they answer soonest: those of the whole net, and of each leaf where there are several."""
+    """The tasks, small crowds first, as they answer soonest: those of the whole net, and of each leaf where there are
+    several."""
     trees = loaded.part_trees()
     net, whole = loaded.net, loaded.whole_tree()
     both = list(enumerate(zip(net.leaves, trees)))
@@ -94,7 +97,8 @@ def find(
             return out
         loaded.part_trees()
         raise InputFault(
-            "the leaves' predicates combine to another tree than the whole predicate's (docs/guide/certificates.md, \"How a predicate becomes a tree\")"
+            "the leaves' predicates combine to another tree than the whole predicate's (docs/guide/certificates.md,"
+            ' "How a predicate becomes a tree")'
         )
     tasks = tasks_of(loaded, drafts_of(loaded, anew), seconds, small)
     # (before processes are made, so that they share what is loaded, and a missing package is told once)

@@ -1,4 +1,5 @@
-"""A branch as a stack of frames: the facts of each case on the way, with the bounds that they give and known points."""
+"""A branch as a stack of frames: the facts of each case on the way, with the bounds that they give and known
+points."""
 from __future__ import annotations
 
 from dataclasses import dataclass, field
@@ -16,7 +17,8 @@ POOL = 16  # known points that are kept for a branch
 
 @dataclass
 class Lemma:
-    """A node whose other cases close at once; `main` is the case in which the branch goes on, `at` the number of items before it."""
+    """A node whose other cases close at once; `main` is the case in which the branch goes on, `at` the number of items
+    before it."""
 
     node: Node
     cases: list[Case]

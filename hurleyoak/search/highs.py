@@ -1,4 +1,5 @@
-"""Linear and integer programs by HiGHS (Debian's python3-scipy), called without scipy's detours where that is possible."""
+"""Linear and integer programs by HiGHS (Debian's python3-scipy), called without scipy's detours where that is
+possible."""
 from __future__ import annotations
 
 import warnings
@@ -100,7 +101,8 @@ def minimise(
     seconds: float | None = None,
     presolve: bool = True,
 ) -> Outcome:
-    """The least cost with `low <= matrix * x <= high` and `least <= x <= most`; with `whole`, in integers; `seconds` of the processor."""
+    """The least cost with `low <= matrix * x <= high` and `least <= x <= most`; with `whole`, in integers; `seconds`
+    of the processor."""
     if seconds is None:
         return _minimised(cost, matrix, low, high, least, most, whole, None, presolve)
 

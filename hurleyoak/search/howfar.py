@@ -1,4 +1,5 @@
-"""How far each task of a search is: a share from 0 to 1, noted by the process that works and looked at by the one that waits."""
+"""How far each task of a search is: a share from 0 to 1, noted by the process that works and looked at by the one that
+waits."""
 from __future__ import annotations
 
 import multiprocessing

@@ -58,9 +58,19 @@ class Task:
     whole: Predicate | None = None
 
 
+class Why(StrEnum):
+    """Why a task was not done."""
+
+    RESTLESS = "restless"
+    MISSES = "misses"
+    WRONG_END = "wrong end"
+    NO_LAYERS = "no layers"
+    GAVE_UP = "gave up"
+
+
 @dataclass
 class Result:
-    """What came of a task; `why` is empty where it was done, else `restless`, `misses`, `wrong end`, `no layers`, `gave up`.
+    """What came of a task; `why` is None if it was done.
 
     `flaw` is one of the whole net, `missed` one of a leaf for its own predicate.
     """
@@ -74,7 +84,7 @@ class Result:
     missed: Flaw | None = None
     restless: Flaw | None = None
     tried: Tried = field(default_factory=Tried)
-    why: str = ""
+    why: Why | None = None
     told: str = ""
     point: list[int] = field(default_factory=list)
     order: Order | None = None
@@ -82,8 +92,12 @@ class Result:
     moves: list[int] = field(default_factory=list)
     are_none: bool = False
 
+    @property
+    def reason(self) -> str:
+        """Why in words, empty if the task was done."""
+        return self.why.value if self.why else ""
 
-MISSES, WRONG_END, NO_LAYERS, GAVE_UP = "misses", "wrong end", "no layers", "gave up"
+
 WHOLE = -1  # in the place of a leaf's number: the whole net
 
 
@@ -95,7 +109,7 @@ def _layers(task: Task, result: Result, deadline: float) -> None:
             find_layers(task.leaf, deadline) if task.layers is None else fill_layers(task.leaf, task.layers, deadline)
         )
     except NoLayers as none:
-        result.why, result.told, result.moves, result.are_none = NO_LAYERS, none.told, none.moves, none.is_shown
+        result.why, result.told, result.moves, result.are_none = Why.NO_LAYERS, none.told, none.moves, none.is_shown
 
 
 def _tree(task: Task, result: Result, deadline: float) -> None:
@@ -106,20 +120,20 @@ def _tree(task: Task, result: Result, deadline: float) -> None:
     try:
         result.tree = find_tree(task.leaf, task.tree, task.kind == TRUE, task.nodes, deadline, task.small)
     except WrongEnd as end:
-        result.why, result.point = WRONG_END, end.point
+        result.why, result.point = Why.WRONG_END, end.point
         if _ordered(task, result):
             return
         found = by_arrays()(
             task.leaf, task.tree, tuple(end.point[: len(task.leaf.inputs)]), clock() + CANDIDATE_SECONDS
         )
         if isinstance(found, Flaw) and found.kind == RESTLESS:
-            result.why, result.restless = RESTLESS, found
+            result.why, result.restless = Why.RESTLESS, found
         elif isinstance(found, Flaw):
             _missed(task, result, found)
         else:
             result.crowds = found
     except (GaveUp, Trouble) as none:
-        result.why, result.told = GAVE_UP, str(none)
+        result.why, result.told = Why.GAVE_UP, str(none)
 
 
 def _ordered(task: Task, result: Result) -> bool:
@@ -132,7 +146,7 @@ def _ordered(task: Task, result: Result) -> bool:
         return False
     result.flaw = net_flaw_by(task.net, task.whole, task.at, missed)
     if result.flaw is not None:
-        result.why = ""
+        result.why = None
     else:
         _missed(task, result, missed)
     return True
@@ -143,9 +157,9 @@ def _missed(task: Task, result: Result, missed: Flaw) -> None:
     assert task.net is not None and task.whole is not None
     found = by_arrays()(system_of(task.net), task.whole, missed.counts, clock() + CANDIDATE_SECONDS)
     if isinstance(found, Flaw) and found.kind != RESTLESS:
-        result.why, result.flaw = "", found
+        result.why, result.flaw = None, found
     else:
-        result.why, result.missed = MISSES, missed
+        result.why, result.missed = Why.MISSES, missed
 
 
 def _small(task: Task, result: Result) -> None:
@@ -164,7 +178,7 @@ def _small(task: Task, result: Result) -> None:
     elif flaw is not None:
         _missed(task, result, flaw)
     elif result.tried.restless is not None:
-        result.why, result.restless = RESTLESS, result.tried.restless
+        result.why, result.restless = Why.RESTLESS, result.tried.restless
 
 
 def work(task: Task) -> Result:
@@ -223,7 +237,8 @@ def _begin_worker(shares: howfar.Shares) -> None:
 
 
 def results(tasks: Sequence[Task], jobs: int, going: howfar.Going | None = None) -> Iterator[Result]:
-    """The results as they come; with one job, in the order of the tasks. Who stops listening ends the work that is left.
+    """The results as they come; with one job, in the order of the tasks. Who stops listening ends the work that is
+    left.
 
     `going` is told now and then how far each task is, where several processes work.
     """

@@ -1,4 +1,5 @@
-"""The layers of one leaf: by peeling, by every choice where it has few moves, by SMT where peeling fails; and given parts kept."""
+"""The layers of one leaf: by peeling, by every choice where it has few moves, by SMT where peeling fails; and given
+parts kept."""
 from __future__ import annotations
 
 from dataclasses import dataclass, field

@@ -1,4 +1,5 @@
-"""Layers of one leaf: moves in groups, each with weights that its moves lower, none of which wakes an earlier group."""
+"""Layers of one leaf: moves in groups, each with weights that its moves lower, none of which wakes an earlier
+group."""
 from __future__ import annotations
 
 import random
@@ -47,7 +48,8 @@ class LayerFinder:
         self.stuck: Moves = frozenset()
 
     def weights(self, moves: Moves, whole: bool = False) -> tuple[float, Array] | None:
-        """Weights from 0 on that all these moves lower by 1 or more, with the least greatest weight; in whole numbers where asked.
+        """Weights from 0 on that all these moves lower by 1 or more, with the least greatest weight; in whole numbers
+        where asked.
 
         Whole ones are fractions scaled, unless smaller ones are found in time.
         """
@@ -67,7 +69,8 @@ class LayerFinder:
         return self.known[key]
 
     def _by_few(self, mask: Array) -> tuple[float, Array] | None:
-        """The program of those kinds of moves that were hard to lower before, and of more, as long as others aren't lowered."""
+        """The program of those kinds of moves that were hard to lower before, and of more, as long as others aren't
+        lowered."""
         kinds = np.nonzero(mask)[0]
         lowers = self.lowers[kinds]
         part, found = self.last
@@ -120,7 +123,8 @@ class LayerFinder:
         return float(got.point[width]), full
 
     def _scaled(self, kinds: Array, weights: Array) -> tuple[float, Array] | None:
-        """The same weights times a number that makes them whole; None where they are past the limit then, or no fractions."""
+        """The same weights times a number that makes them whole; None where they are past the limit then, or no
+        fractions."""
         parts = [Fraction(float(w)).limit_denominator(DENOMINATORS) for w in weights]
         scale = lcm(*(part.denominator for part in parts))
         made = [int(part * scale) for part in parts]
@@ -129,7 +133,9 @@ class LayerFinder:
             near = range(changes.indptr[row], changes.indptr[row + 1])
             if sum(int(changes.data[i]) * made[changes.indices[i]] for i in near) > -1:
                 return None
-        return None if max(made, default=0) > SIZE_LIMIT else (float(max(made, default=0)), np.array(made, dtype=float))
+        return (
+            None if max(made, default=0) > SIZE_LIMIT else (float(max(made, default=0)), np.array(made, dtype=float))
+        )
 
     def bound(self, groups: Sequence[Moves]) -> float:
         """What the groups cost, as far as fractions tell."""
@@ -180,7 +186,8 @@ class LayerFinder:
         return frozenset()
 
     def _union(self, done: Moves, choices: Sequence[Moves], others: Sequence[int], mend: bool) -> Moves:
-        """The union of closures, one after the other, as long as it has weights; `others` are moves whose closures aren't made yet."""
+        """The union of closures, one after the other, as long as it has weights; `others` are moves whose closures
+        aren't made yet."""
         layer: Moves = frozenset()
         bad: list[Moves] = []
         candidates: list[Moves | int] = [*choices, *others]

@@ -1,4 +1,5 @@
-"""The least bound of few moves: a cheapest way from the moves listed before them to all of them, over every choice of layers."""
+"""The least bound of few moves: a cheapest way from the moves listed before them to all of them, over every choice of
+layers."""
 from __future__ import annotations
 
 import heapq
@@ -53,8 +54,8 @@ class _Spans:
 def least_groups(
     finder: LayerFinder, deadline: float, below: int = 1 << 60, first: Moves = frozenset(), moves: Moves | None = None
 ) -> list[Moves] | None:
-    """Groups of these moves, or of all, behind the `first` ones, with the least bound; None where none is below a known one, or the
-    time is up."""
+    """Groups of these moves, or of all, behind the `first` ones, with the least bound; None where none is below a
+    known one, or the time is up."""
     every = first | (moves if moves is not None else frozenset(finder.leaf.active))
     spans = _Spans(finder)
     best: dict[Moves, int] = {first: 0}

@@ -61,9 +61,9 @@ class Lemmas(Branch):
         return False
 
     def _easy(self, word: str, point: Array, seen_too: bool) -> bool:
-        """The set is the greatest one that the moves of the branch's known points respect. Where another case has a point too,
-        its moves are added and the set gets smaller, until its other cases are closed or it excludes nothing.
-        Where this failed before, the moves of points of other branches count from the start."""
+        """The set is the greatest one that the moves of the branch's known points respect. Where another case has a
+        point too, its moves are added and the set gets smaller, until its other cases are closed or it excludes
+        nothing. Where this failed before, the moves of points of other branches count from the start."""
         known = np.stack([*self.stack.top.pool, point])
         first = self.cases.first_move
         moves = (known[:, first:] > 1 - EPSILON).any(axis=0)
@@ -110,8 +110,8 @@ class Lemmas(Branch):
         return self.side_point(next(cases)) is None and self.side_point(next(cases)) is None
 
     def _smaller_trap(self, states: States, moves: Sequence[int], point: Array, taken: Sequence[int]) -> States:
-        """A smaller trap that does the same, as its last case says more: first a least one by the moves alone, then one that
-        keeps the inputs' states, then blocks of states are left out, half of them first."""
+        """A smaller trap that does the same, as its last case says more. First comes a least one by the moves alone,
+        then one that keeps the inputs' states. Then blocks of states are left out, half of them first."""
         order = sorted(states, key=lambda q: (len(self.cases.leaf.partners[q]), q))
         bare: States = frozenset()
 

@@ -18,7 +18,8 @@ def clock() -> float:
 
 
 def worked(seconds: float, call: Callable[[float], Outcome], is_cut: Callable[[Outcome], bool]) -> Outcome:
-    """What a call gives that counts seconds by the wall: where it was cut and the processor was elsewhere, it is made again with more."""
+    """What a call gives that counts seconds by the wall: where it was cut and the processor was elsewhere, it is made
+    again with more."""
     wall = seconds
     while True:
         start = clock()

@@ -1,4 +1,5 @@
-"""A proof mended: `?` in the place of what the program refuses, or of more of it, until it is certified or nothing more can be opened."""
+"""A proof mended: `?` in the place of what the program refuses, or of more of it, until it is certified or nothing
+more can be opened."""
 from __future__ import annotations
 
 import re
@@ -7,9 +8,9 @@ from typing import Callable, Iterator
 
 from ..engine import program
 from ..proof.branches import visits
-from ..text.files import Loaded, LoadedNet, Written
+from ..text.loaded import Loaded, LoadedNet, Written
 from ..proof.names import Names
-from ..protocol.predicates import read_predicate
+from ..protocol.predicatereader import read_predicate
 from ..text.proofreader import LayerDraft, ProofDraft
 from ..proof.bundles import Bundle, Hole, LeafProof
 from ..text.treereader import DraftNode
@@ -46,7 +47,8 @@ def _ends(bundle: Bundle, at: int, value: bool) -> list[int]:
 
 
 def openings(bundle: Bundle, line: str) -> Iterator[list[ProofDraft]]:
-    """The proofs with `?` where this line refuses the bundle: in the place of the node, of its parents, of the whole tree; or of layers."""
+    """The proofs with `?` where this line refuses the bundle: in the place of the node, of its parents, of the whole
+    tree; or of layers."""
     found = _REFUSED.fullmatch(line)
     if found is None:
         return

@@ -1,4 +1,5 @@
-"""An order of a candidate's own moves: depth first over what is left of each move, so that no other crowds of its input are built."""
+"""An order of a candidate's own moves: depth first over what is left of each move, so that no other crowds of its
+input are built."""
 from __future__ import annotations
 
 from dataclasses import dataclass, field
@@ -53,7 +54,8 @@ class _Search:
 
 
 def ordered(leaf: Leaf, counts: tuple[int, ...], taken: Mapping[int, int], stop: float) -> Order:
-    """Looks for an order from an input in which each move is taken as often as `taken` says; until this process has worked up to `stop`.
+    """Looks for an order from an input in which each move is taken as often as `taken` says; until this process has
+    worked up to `stop`.
 
     What is left of each move says which crowd it is, so each is looked at once.
     """

@@ -1,4 +1,5 @@
-"""All crowds of an input as arrays, a step of all of them at once; what it finds is what `explore.flaw_at` finds crowd by crowd."""
+"""All crowds of an input as arrays, a step of all of them at once; what it finds is what `explore.flaw_at` finds crowd
+by crowd."""
 from __future__ import annotations
 
 import numpy as np
@@ -27,9 +28,11 @@ def _expanded(starts: Array, ends: Array) -> Array:
 
 
 class Packed:
-    """The crowds of one input, one in a row, in the order in which they are met; and the moves between them, by `source`.
+    """The crowds of one input, one in a row, in the order in which they are met; and the moves between them, by
+    `source`.
 
-    A crowd's key is its counts as one number where that has room, or a sum by chance numbers: then equal keys are compared.
+    A crowd's key is its counts as one number where that has room, or a sum by chance numbers: then equal keys are
+    compared.
     """
 
     def __init__(self, leaf: Leaf, counts: tuple[int, ...]) -> None:
@@ -180,21 +183,22 @@ def packed_flaw(leaf: Leaf, tree: Predicate, counts: tuple[int, ...], stop: floa
     hidden = sorted(set(moves) - first_moves(leaf))
     size = len(graph.crowds)
     return Flaw(
-        kind,
-        counts,
-        graph.crowd(at),
-        moves,
-        by_meetings is not None,
-        around,
-        size,
-        shown_leaf(leaf),
-        words_of(leaf),
-        hidden,
+        kind=kind,
+        counts=counts,
+        crowd=graph.crowd(at),
+        moves=moves,
+        by_meetings=by_meetings is not None,
+        round=around,
+        size=size,
+        leaf=shown_leaf(leaf),
+        words=words_of(leaf),
+        hidden=hidden,
     )
 
 
 def flaw_of(system: System, tree: Predicate, counts: tuple[int, ...], stop: float) -> Flaw | int | None:
-    """A flaw at an input, or the number of its crowds, or None where they are too many: by arrays where a leaf has more than a few."""
+    """A flaw at an input, or the number of its crowds, or None where they are too many: by arrays where a leaf has
+    more than a few."""
     found = flaw_at(system, tree, counts, stop, FEW if isinstance(system, Leaf) else CROWDS)
     return (
         packed_flaw(system, tree, counts, stop, PACKED_CROWDS) if found is None and isinstance(system, Leaf) else found

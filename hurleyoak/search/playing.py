@@ -113,7 +113,8 @@ def play(net: Net, flaw: Flaw, want: bool) -> Played:
         meetings.append((a, b))
         moves.append(names.move(t))
     text = (
-        "\n".join([compact(net.value()), crowd_line(net.names, flaw.counts), *(f"{a} {b}" for a, b in meetings)]) + "\n"
+        "\n".join([compact(net.value()), crowd_line(net.names, flaw.counts), *(f"{a} {b}" for a, b in meetings)])
+        + "\n"
     )
     answer = program.ask(["play"], text)
     printed = answer.text.splitlines()

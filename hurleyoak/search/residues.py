@@ -31,7 +31,8 @@ def _euclid(a: int, b: int) -> tuple[int, int, int]:
 
 
 def _eliminated(work: Array, column: int, m: int) -> Array:
-    """Makes a column zero but for one row, by steps that can be undone; gives that row and leaves zeros in its place."""
+    """Makes a column zero but for one row, by steps that can be undone; gives that row and leaves zeros in its
+    place."""
     live = np.nonzero(work[:, column])[0]
     values = work[live, column]
     divisors = np.gcd(values, m)
@@ -80,15 +81,19 @@ def _known(items: Sequence[Item], m: int, variables: int) -> tuple[_Known, list[
             a = int(item.variables[0]) if len(item.variables) == 1 else -1
             if a >= 0 and not known.mask[a] and gcd(int(item.numbers[0]), m) == 1:
                 inverse = pow(int(item.numbers[0]), -1, m)
-                known.mask[a], known.values[a], known.refs[a] = True, -item.constant * inverse % m, ((item, 0), inverse)
+                known.mask[a], known.values[a], known.refs[a] = (
+                    True,
+                    -item.constant * inverse % m,
+                    ((item, 0), inverse),
+                )
             else:
                 rows.append(item)
     return known, rows, denials
 
 
 def _fewer(columns: Array, m: int) -> Array:
-    """Columns on which a sum is zero where it is zero on all the given ones: the different ones; or, of very many, random sums
-    of them, as many as let no wrong sum pass (which would be found out by `closes`)."""
+    """Columns on which a sum is zero where it is zero on all the given ones. They are the different ones, or random
+    sums of very many. There are enough of these to let no wrong sum pass (`closes` would find it out)."""
     columns = columns[:, columns.any(axis=0)]
     rows, count = columns.shape
     wanted = int(rows * log2(m)) + SPARE
@@ -104,7 +109,8 @@ def _fewer(columns: Array, m: int) -> Array:
 
 
 def _howell(work: Array, width: int, m: int) -> tuple[list[Array], list[tuple[int, Array]]]:
-    """Of rows modulo m: sums of them whose first `width` columns are zero, which give all others such, and the pivots with their rows."""
+    """Of rows modulo m: sums of them whose first `width` columns are zero, which give all others such, and the pivots
+    with their rows."""
     bare: list[Array] = []
     pivots: list[tuple[int, Array]] = []
     while len(work):
@@ -123,7 +129,8 @@ def _howell(work: Array, width: int, m: int) -> tuple[list[Array], list[tuple[in
 
 
 class Residues:
-    """Looks for a `residue` over one leaf's variables. What rows say without the moves that may be taken is worked out once."""
+    """Looks for a `residue` over one leaf's variables. What rows say without the moves that may be taken is worked out
+    once."""
 
     def __init__(self, variables: int, first_move: int) -> None:
         self.variables, self.first_move = variables, first_move
@@ -140,7 +147,9 @@ class Residues:
             for i, row in enumerate(rows):
                 full[i, row.variables] = row.numbers % m
             columns = _fewer(full[:, self.first_move :][:, taken], m)
-            bare, _ = _howell(np.concatenate([columns, np.eye(len(rows), dtype=np.int64)], axis=1), columns.shape[1], m)
+            bare, _ = _howell(
+                np.concatenate([columns, np.eye(len(rows), dtype=np.int64)], axis=1), columns.shape[1], m
+            )
             made = np.array(bare, dtype=np.int64).reshape(len(bare), -1)[:, columns.shape[1] :]
             self._bare[key] = list(rows), made  # (the rows are kept, so that no other one gets the same id)
         return self._bare[key][1]
@@ -161,7 +170,8 @@ class Residues:
 
 
 class _System:
-    """Sums of rows in which no move stands, and facts that m doesn't divide something, over the other variables modulo m."""
+    """Sums of rows in which no move stands, and facts that m doesn't divide something, over the other variables modulo
+    m."""
 
     def __init__(self, rows: list[Row], denials: list[Row], known: _Known, first: Array, m: int, width: int) -> None:
         self.rows, self.denials, self.known, self.m = rows, denials, known, m

@@ -175,7 +175,8 @@ class Prover(Lemmas):
                 return node
 
     def _exclude(self, point: Array) -> tuple[bool, Grown | None]:
-        """Excludes the point: by a lemma (then the branch is looked at again), or by a node; by neither where nothing here does."""
+        """Excludes the point: by a lemma (then the branch is looked at again), or by a node; by neither where nothing
+        here does."""
         if self.easy_lemma(point):
             return True, None
         node = self._present(point)
@@ -233,7 +234,8 @@ class Prover(Lemmas):
         return grown(node, done)
 
     def _hard(self, point: Array) -> tuple[bool, Grown | None]:
-        """Excludes the point by a small siphon or trap of the moves that it takes: as a lemma where one case alone stays open."""
+        """Excludes the point by a small siphon or trap of the moves that it takes: as a lemma where one case alone
+        stays open."""
         best: tuple[int, str, frozenset[int]] | None = None
         for word in WORDS:
             for states in self.small_sets(word, point):
@@ -250,7 +252,8 @@ class Prover(Lemmas):
         return (False, self._cased(node_of(best[1], best[2]))) if best else (False, None)
 
     def _split(self) -> Grown:
-        """Where whole numbers exclude what fractions allow: splits a fraction, decides on a state, or splits a small count."""
+        """Where whole numbers exclude what fractions allow: splits a fraction, decides on a state, or splits a small
+        count."""
         point = self.stack.top.pool[-1]
         best: tuple[int, Split] | None = None
         fractions = [a for a in range(self.cases.variables) if abs(point[a] - round(point[a])) > EPSILON]

@@ -55,7 +55,7 @@ class Sets:
         return bool((inside[r] | inside[s]).any())
 
     def siphon_breaks(self, states: States, point: Array, taken: Sequence[int]) -> bool:
-        """Whether somebody is in the set or was taken from it, though nobody started there."""
+        """Whether an agent is in the set or was taken from it, though nobody started there."""
         if not states:
             return False
         inside = self.cases.inside(sorted(states))
@@ -73,8 +73,9 @@ class Sets:
         return self.greatest_trap(states, moves) if word == "trap" else self.greatest_siphon(states, moves)
 
     def least(self, word: str, most: States, order: Sequence[int], point: Array, taken: Sequence[int]) -> States:
-        """A least trap or siphon within `most` that excludes the point still: states are left out in this order, each that can be.
-        As a smaller set excludes less, they are left out in blocks, twice as many as long as that goes."""
+        """A least trap or siphon within `most` that excludes the point still: states are left out in this order, each
+        that can be. As a smaller set excludes less, they are left out in blocks, twice as many as long as that
+        goes."""
         p, q, r, s = self.cases.ends[:, list(taken)]
         there, back = ((p, q), (r, s)) if word == "trap" else ((r, s), (p, q))
         here = self.cases.inside(list(self.started(point))) if word == "trap" else self.crowd(point) > EPSILON

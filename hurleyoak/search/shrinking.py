@@ -56,7 +56,8 @@ class _Survey:
 
 
 def _any_meets(points: Array, items: Sequence[Item]) -> bool:
-    """Whether one of some points, a row each, meets all facts that are no congruences; then no sum of these facts closes."""
+    """Whether one of some points, a row each, meets all facts that are no congruences; then no sum of these facts
+    closes."""
     for item in items:
         if not len(points):
             break

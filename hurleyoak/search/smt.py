@@ -1,8 +1,10 @@
-"""Layers one after the other by SMT (Debian's python3-z3): which of the moves left have weights, and are woken by no other?
+"""Layers one after the other by SMT (Debian's python3-z3): which of the moves left have weights, and are woken by no
+other?
 
-Where there are layers at all, such moves are left behind any layers that are found before: so no layer ever has to be taken back,
-and where there are none such, there are no layers. z3 chooses the moves by the waking alone. Of moves that have no weights together
-a linear program names some that leave every crowd as it was; these are never chosen together again.
+If there are layers at all, such moves are left after any layers that were found before. So no layer ever has to be
+taken back. If there are no such moves, there are no layers. z3 chooses the moves by the waking alone. Of moves that
+have no weights together a linear program names some that leave every crowd as it was; these are never chosen together
+again.
 """
 from __future__ import annotations
 
@@ -40,8 +42,8 @@ Pair = tuple[int, int]
 
 
 def _clauses(leaf: Leaf, kinds: Array) -> Iterator[str]:
-    """The choices in the language of SMT solvers. `x`: the move is listed, now or before; `d`: it was before; `k`: its kind is chosen
-    now; `n`: two states have a listed move."""
+    """The choices in the language of SMT solvers. `x`: the move is listed, now or before; `d`: it was before; `k`: its
+    kind is chosen now; `n`: two states have a listed move."""
     moves: dict[Pair, list[int]] = {}
     for t in leaf.active:
         moves.setdefault(pair(*leaf.moves[t][:2]), []).append(t)
@@ -125,7 +127,8 @@ class _Program:
 
 
 def _circle(finder: LayerFinder, kinds: Array) -> list[tuple[int, float]]:
-    """Some of these kinds of moves that leave every crowd as it was, each taken so often; empty where they have weights."""
+    """Some of these kinds of moves that leave every crowd as it was, each taken so often; empty where they have
+    weights."""
     part = finder.lowers[kinds].T.tocoo()
     states, width = len(finder.leaf.states), len(kinds)
     matrix = matrix_of(
@@ -150,7 +153,9 @@ def _is_circle(finder: LayerFinder, circle: list[tuple[int, float]]) -> bool:
     for kind, times in circle:
         row = finder.lowers[kind].tocoo()
         for q, change in zip(row.col.tolist(), row.data.tolist()):
-            total[q] = total.get(q, Fraction(0)) + int(change) * Fraction(times / least).limit_denominator(DENOMINATORS)
+            total[q] = total.get(q, Fraction(0)) + int(change) * Fraction(times / least).limit_denominator(
+                DENOMINATORS
+            )
     return not any(total.values())
 
 

@@ -19,7 +19,8 @@ DENOMINATORS = (60, 2_000, 1_000_000)  # the multipliers' greatest ones that are
 SCALES = (1, 2, 3, 4, 5, 6, 8, 10, 12, 20, 30, 60)  # that are tried before fractions are made
 CLOSE = 1e-7
 TINY = 1e-9
-PRESOLVED = 1_500  # variables at most of a program that is made smaller first; that costs time, but its points make smaller trees
+# variables at most of a program that is made smaller first: that costs time, but its points make smaller trees
+PRESOLVED = 1_500
 WHOLE_SECONDS = 4.0
 EAGER = 10.0  # what a move is worth that is to be taken once, where an agent costs 1
 SAFE = 1 << 52  # sums up to here are exact in floats
@@ -43,7 +44,9 @@ class Solver:
         self.flow_at = np.array([-fact.constant for fact in flow], dtype=float)
         self.presolve = cases.variables <= PRESOLVED
         self.columns = None if self.presolve else Columns(cases.first_move, cases.variables)
-        self.cost = np.concatenate([np.full(cases.inputs, 1.0), np.full(cases.states, 0.01), np.full(cases.moves, 0.1)])
+        self.cost = np.concatenate(
+            [np.full(cases.inputs, 1.0), np.full(cases.states, 0.01), np.full(cases.moves, 0.1)]
+        )
 
     def _extended(self, rows: Sequence[Row], wider: int) -> Matrix:
         if not rows:
@@ -58,11 +61,14 @@ class Solver:
         )
 
     def point(self, line: Sequence[Frame], cost: Array | None = None, eager: Array | None = None) -> Array | None:
-        """A point that meets all facts but congruences, or None. Where it is possible, one that takes many of the `eager` moves once."""
+        """A point that meets all facts but congruences, or None. Where it is possible, one that takes many of the
+        `eager` moves once."""
         top = line[-1]
         if top.is_false:
             return None
-        rows = [row for frame in line[1:] for row in frame.rows] + [row for row in line[0].rows if row.kind == AT_LEAST]
+        rows = [row for frame in line[1:] for row in frame.rows] + [
+            row for row in line[0].rows if row.kind == AT_LEAST
+        ]
         low = np.concatenate([self.flow_at, [-row.constant for row in rows]])
         high = np.concatenate([self.flow_at, [-row.constant if row.kind == EQUAL else np.inf for row in rows]])
         matrix = self._extended(rows, 0)
@@ -95,7 +101,9 @@ class Solver:
         top = line[-1]
         if top.is_false:
             return None
-        rows = [row for frame in line[1:] for row in frame.rows] + [row for row in line[0].rows if row.kind == AT_LEAST]
+        rows = [row for frame in line[1:] for row in frame.rows] + [
+            row for row in line[0].rows if row.kind == AT_LEAST
+        ]
         mods = [row for frame in line for row in frame.mods]
         n = self.cases.variables
         made = [

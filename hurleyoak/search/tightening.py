@@ -20,7 +20,8 @@ class OutOfTries(Exception):
 
 @dataclass
 class _Option:
-    """A node that may stand at a branch, the numbers of its cases that are open, and how many more nodes these may have than one each."""
+    """A node that may stand at a branch, the numbers of its cases that are open, and how many more nodes these may
+    have than one each."""
 
     node: Node
     cases: list[Case]
@@ -36,7 +37,8 @@ class _Tightener:
         self.left = TRIES
 
     def walked(self, node: Grown) -> tuple[Grown, int]:
-        """The tree of the branch made smaller, and a number of nodes that none of it goes below, as far as is known."""
+        """The tree of the branch made smaller, and a number of nodes that none of it goes below, as far as is
+        known."""
         if not node.cases:
             return node, 1
         done, least = [], 3
@@ -57,7 +59,8 @@ class _Tightener:
         return node, least
 
     def _nodes(self) -> list[Node]:
-        """The nodes that may stand at the branch: `present` of each state that is not decided, and sets that exclude a point."""
+        """The nodes that may stand at the branch: `present` of each state that is not decided, and sets that exclude a
+        point."""
         branch = self.branch
         point = branch.stack.top.pool[-1]
         sets = [node_of(word, states) for word in WORDS for states in branch.small_sets(word, point)]
@@ -83,7 +86,8 @@ class _Tightener:
             return None
 
     def _least(self, most: int, passed: frozenset[Node] = frozenset()) -> Grown | None:
-        """A tree of at most so many nodes for the branch, if there is one; without nodes that were looked at higher up."""
+        """A tree of at most so many nodes for the branch, if there is one; without nodes that were looked at higher
+        up."""
         now = self.branch.closed()
         if now is not None or most < 3:
             return now

@@ -50,7 +50,8 @@ def _less(found: Found, limit: Limit, exact: bool) -> Found:
 def _smallest(
     cases: Cases, tree: Predicate, value: bool, first: Found, limit: Limit, more: Limit, exact: bool
 ) -> Found:
-    """The smallest of the trees that are found in all ways, made smaller in its parts; a way is gone while there is `more` time."""
+    """The smallest of the trees that are found in all ways, made smaller in its parts; a way is gone while there is
+    `more` time."""
     best = _less(first, limit, exact)
     for way in WAYS[1:]:
         if best[1].size <= ENOUGH or more.is_over():

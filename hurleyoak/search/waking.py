@@ -1,4 +1,5 @@
-"""Which moves wake moves of earlier layers, for all moves at once (the test of docs/guide/certificates.md, as a matrix)."""
+"""Which moves wake moves of earlier layers, for all moves at once (the test of docs/guide/certificates.md, as a
+matrix)."""
 from __future__ import annotations
 
 from typing import Iterable
@@ -55,7 +56,8 @@ class Waking:
     def closure(self, done: Moves, seed: Moves, mend: bool = False) -> Moves:
         """A set with the seed, less `done`, that no move outside wakes.
 
-        A move that wakes it is added; with `mend` rather the moves that would have been possible already, where there are any.
+        A move that wakes it is added; with `mend` rather the moves that would have been possible already, where there
+        are any.
         """
         have = self.mask([*done, *seed])
         p, q = self.ends[:2]

@@ -15,8 +15,10 @@ Options = list[tuple[int, int]]
 
 
 class Words:
-    """The words of a net with several leaves, and their moves: those of one leaf alone, as the model has them, and meetings, in which
-    each leaf takes its first move. A crowd has a count for each word so far, and no zeros at its end."""
+    """The words of a net with several leaves, and their moves. These are moves of one leaf alone, as the model has
+    them, and meetings, in which each leaf takes its first move. A crowd has a count for each word so far, and no zeros
+    at its end.
+    """
 
     def __init__(self, net: Net) -> None:
         self.net = net
@@ -40,7 +42,9 @@ class Words:
         known = self._numbers.setdefault(word, len(self.words))
         if known == len(self.words):
             self.words.append(word)
-            self.outputs.append(combined(self.net.combine, [leaf.outputs[q] for leaf, q in zip(self.net.leaves, word)]))
+            self.outputs.append(
+                combined(self.net.combine, [leaf.outputs[q] for leaf, q in zip(self.net.leaves, word)])
+            )
         return known
 
     def start(self, counts: tuple[int, ...]) -> Crowd:
@@ -81,7 +85,8 @@ class Words:
         return known
 
     def _made(self, p: int, q: int, is_meeting: bool) -> Iterator[tuple[int, int]]:
-        """What two agents in these words become by a meeting, in which the first is the first in each leaf, or by a move of one leaf."""
+        """What two agents in these words become by a meeting, in which the first is the first in each leaf, or by a
+        move of one leaf."""
         one, two = self.words[p], self.words[q]
         options = [table.get(states, []) for table, states in zip(self._options, zip(one, two))]
         stay = list(zip(one, two))

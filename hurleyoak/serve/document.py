@@ -43,7 +43,8 @@ class Document:
             raise InputFault(f"{self.path}: byte {error.start} is no UTF-8") from None
 
     def save(self, text: str, seen: str) -> str:
-        """Writes the text whole or not at all, and gives its mark; Changed where the file isn't the one that was seen."""
+        """Writes the text whole or not at all, and gives its mark; Changed where the file isn't the one that was
+        seen."""
         if self.mark(self.text()) != seen:
             raise Changed
         write_text(str(self.path), text)

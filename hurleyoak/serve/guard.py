@@ -1,10 +1,12 @@
-"""Who may ask: the page of this server alone, and who knows its key.
+"""Who may ask: the page of this server, with its key, and no other.
 
-A web page of somebody else, open in the same browser, can send requests to any address. Four things stand in its way,
-of which each would be enough for most browsers: the name in `Host` has to be this server's own (against a foreign name
-that is made to mean 127.0.0.1), `Origin` and `Sec-Fetch-Site` have to be the page's own where they are sent, a request
-for work has to be JSON (a form can't send that), and it has to carry the key, which stands only in the address that
-the terminal shows.
+Another web page, open in the same browser, can send requests to any address. Four checks stop it, and for most
+browsers each of them is enough:
+
+- The name in `Host` has to be this server's own, against a foreign name that is made to mean 127.0.0.1.
+- `Origin` and `Sec-Fetch-Site` have to be the page's own if they are sent.
+- A request for work has to be JSON, which a form can't send.
+- It has to carry the key, which only the address in the terminal has.
 """
 from __future__ import annotations
 

@@ -56,7 +56,8 @@ def work_of(group: int) -> float:
 
 
 class Clock:
-    """The time that a job may take: it is up where its processes have worked so long, or much later on a machine that is busy otherwise."""
+    """The time that a job may take: it is up where its processes have worked so long, or much later on a machine that
+    is busy otherwise."""
 
     def __init__(self, group: int, seconds: float) -> None:
         self.group, self.seconds = group, seconds

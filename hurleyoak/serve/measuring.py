@@ -1,4 +1,5 @@
-"""How a crowd behaves: one run with its curve, many runs with their growth, and a run of the program with its journal."""
+"""How a crowd behaves: one run with its curve, many runs with their growth, and a run of the program with its
+journal."""
 from __future__ import annotations
 
 import time
@@ -18,8 +19,9 @@ from ..simulation.table import Row, growths, points, row_of
 from ..show.outcome import told as simulation_told
 from ..limits import TURN_LIMIT as TURNS_LIMIT
 from ..simulation.limits import CHANGES_ASKED, MEETING_LIMIT, SEED_LIMIT
-from ..text.files import Loaded, strict_bundle
-from ..protocol.predicates import read_predicate, value_at
+from ..text.loaded import Loaded, strict_bundle
+from ..protocol.predicatereader import read_predicate
+from ..protocol.predicates import value_at
 from .protocol import Fault, loaded_of
 from .request import Request, Tell, counts_in, text_in, whole_in
 from .watching import journal_list

@@ -8,14 +8,17 @@ from typing import Any, Sequence
 
 from ..faults import InputFault
 from ..text.families import MEMBER_LIMIT, member_name
-from ..text.files import READ_AS, Loaded, LoadedBundle, bundle_in, load, predicates_differ, with_predicate
+from ..text.files import load
+from ..text.given import READ_AS, with_predicate
+from ..text.loaded import Loaded, LoadedBundle, bundle_in, predicates_differ
 from ..search.explore import first_moves
 from ..text.membersof import load_member, member_faults, members_of
 from ..text.reading_on import faults_in
 from ..text.relaxed import in_form
 from ..proof.names import Names
 from ..protocol.nets import Leaf, Net
-from ..protocol.predicates import PredicateFault, read_predicate
+from ..protocol.predicatereader import read_predicate
+from ..protocol.predicates import PredicateFault
 from ..protocol.reactions import leaf_ways
 from ..protocol.naming import state_text
 from ..text.scanner import TextFault, without_comment
@@ -144,7 +147,9 @@ def marks_of(loaded: Loaded, text: str) -> list[Mark]:
         out.append(
             {
                 **mark(
-                    NOTE if READ_AS in told else WARNING, told.replace(f"line {line}: ", "", 1) if found else told, line
+                    NOTE if READ_AS in told else WARNING,
+                    told.replace(f"line {line}: ", "", 1) if found else told,
+                    line,
                 ),
                 **more,
             }
@@ -168,7 +173,8 @@ def _lines(loaded: Loaded, at: int) -> list[int]:
 
 
 def _ways(leaf: Leaf) -> list[list[float]] | None:
-    """Where chances or orders are given: states of the initiator and of the responder, what they become, the move and its chance."""
+    """Where chances or orders are given: states of the initiator and of the responder, what they become, the move and
+    its chance."""
     if not leaf.laws:
         return None
     found = leaf_ways(leaf)

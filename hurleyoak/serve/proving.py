@@ -7,7 +7,8 @@ from typing import Any, Callable
 from ..engine import program
 from ..show.explaining import bundle_to_explain, explain
 from ..faults import InputFault
-from ..text.files import Loaded, load, strict_bundle
+from ..text.files import load
+from ..text.loaded import Loaded, strict_bundle
 from ..text.saving import with_proof
 from ..search.howfar import Going
 from ..search.jobs import Result, Task, processors
@@ -63,11 +64,15 @@ def check_task(request: Request, tell: Tell) -> dict[str, Any]:
     out = explained(loaded, bundle_to_explain(loaded))
     refused = [] if out["answer"]["good"] else _refused_places(loaded, out["explanation"])
     taken = {one["line"] for one in open_parts}
-    return {**out, "faults": open_parts + [one for one in refused if one["line"] not in taken], "whole": not open_parts}
+    return {
+        **out,
+        "faults": open_parts + [one for one in refused if one["line"] not in taken],
+        "whole": not open_parts,
+    }
 
 
 def _told_result(result: Result) -> dict[str, Any]:
-    told = result.why or (
+    told = result.reason or (
         f"{len(result.layers)} layer{'' if len(result.layers) == 1 else 's'}"
         if result.layers
         else f"{len(result.tree)} nodes"
@@ -140,7 +145,8 @@ def find_task(request: Request, tell: Tell) -> dict[str, Any]:
 
 
 def mend_task(request: Request, tell: Tell) -> dict[str, Any]:
-    """The proof in the text with what the program refuses found anew: `?` in its place, and in its parents' where that isn't enough."""
+    """The proof in the text with what the program refuses found anew: `?` in its place, and in its parents' where that
+    isn't enough."""
     from ..search.finding import Outcome, find
     from ..search.mending import mended
 

@@ -3,7 +3,7 @@ from __future__ import annotations
 
 from typing import Any, Callable
 
-from ..faults import UsageFault
+from ..faults import AskFault
 
 Request = dict[str, Any]
 Tell = Callable[[str, dict[str, Any]], None]
@@ -13,7 +13,7 @@ def text_in(request: Request, name: str, usual: str = "") -> str:
     """A text."""
     value = request.get(name, usual)
     if not isinstance(value, str):
-        raise UsageFault(f"`{name}` has to be a text")
+        raise AskFault(f"`{name}` has to be a text")
     return value
 
 
@@ -21,7 +21,7 @@ def whole_in(request: Request, name: str, usual: int, low: int, high: int) -> in
     """A whole number within limits."""
     value = request.get(name, usual)
     if isinstance(value, bool) or not isinstance(value, int) or not low <= value <= high:
-        raise UsageFault(f"`{name}` is a whole number from {low:,} to {high:,}")
+        raise AskFault(f"`{name}` is a whole number from {low:,} to {high:,}")
     return value
 
 
@@ -34,10 +34,10 @@ def counts_in(request: Request) -> list[str]:
     """The counts of the variables as words, `x=30`."""
     value = request.get("counts", {})
     if not isinstance(value, dict):
-        raise UsageFault("`counts` has a number for each variable")
+        raise AskFault("`counts` has a number for each variable")
     words = []
     for name, count in value.items():
         if isinstance(count, bool) or not isinstance(count, int) or count < 0:
-            raise UsageFault(f"the count of `{name}` is a whole number, 0 or more")
+            raise AskFault(f"the count of `{name}` is a whole number, 0 or more")
         words.append(f"{name}={count}")
     return words

@@ -12,7 +12,8 @@ from ..engine.compiling import NotCertified, Way, make_bundle
 from ..proof.bundles import bundle_of
 from ..proof.joining import Lost, joined, negated
 from ..show.netdrawing import DRAWN_STATES, arrows, met_text, rows_of, starts
-from ..text.files import Loaded, bundle_in, load, strict_bundle
+from ..text.files import load
+from ..text.loaded import Loaded, bundle_in, strict_bundle
 from ..engine.inputs import Asked
 from ..text.relaxed import in_form
 from ..protocol.nets import FormatFault, Leaf, Net
@@ -134,7 +135,8 @@ def net_task(request: Request, tell: Tell) -> dict[str, Any]:
 
 
 def compile_task(request: Request, tell: Tell) -> dict[str, Any]:
-    """A predicate compiled to a net with its proof: the program's own, or a succinct one; the program then checks it."""
+    """A predicate compiled to a net with its proof: the program's own, or a succinct one; the program then checks
+    it."""
     text = " ".join(text_in(request, "of").split())
     if not text:
         raise Fault(["a predicate is missing, as in `x - y < 3`"])

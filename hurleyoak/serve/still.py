@@ -1,4 +1,5 @@
-"""A protocol as one page without a server: its text, Play, Net, the certificate as it was certified, and curves that were measured."""
+"""A protocol as one page without a server: its text, Play, Net, the certificate as it was certified, and curves that
+were measured."""
 from __future__ import annotations
 
 import hashlib
@@ -17,7 +18,8 @@ from ..simulation.carrying import Limits, carry_out
 from ..simulation.crowds import crowd_words
 from ..simulation.curves import Curve, Recorder
 from ..simulation.simulation import ENDLESS, TERMINAL, Simulation
-from ..text.files import Loaded, bundle_in, load, strict_bundle
+from ..text.files import load
+from ..text.loaded import Loaded, bundle_in, strict_bundle
 from ..text.writer import text_of
 from ..version import RELEASE
 from .protocol import net_value, proof_state
@@ -114,7 +116,11 @@ def page_value(loaded: Loaded, name: str, text: str, curves: list[dict[str, Any]
     """All that the page knows."""
     check = _checked(loaded)
     of_sources = OF_SOURCES in program_told()
-    who = "the program was that of the sources" if of_sources else "it isn't known of which sources the program was"
+    who = (
+        "the program was that of the sources"
+        if of_sources
+        else "it isn't known from which sources the program was built"
+    )
     return {
         "name": name,
         "text": text,
@@ -128,7 +134,8 @@ def page_value(loaded: Loaded, name: str, text: str, curves: list[dict[str, Any]
 
 
 def named_text(loaded: Loaded, text: str | None) -> tuple[Loaded, str]:
-    """The protocol by names: JSON, or a member of a family (None), is written as a `.pop` file, so that each move and node has its line."""
+    """The protocol by names: JSON, or a member of a family (None), is written as a `.pop` file, so that each move and
+    node has its line."""
     if loaded.written is not None and text is not None:
         return loaded, text
     made = text_of(loaded.net, bundle_in(loaded), loaded.labels)
@@ -144,7 +151,9 @@ def still_page(value: dict[str, Any]) -> str:
         title=escape(value["name"]),
         predicate=escape(value["net"]["predicate"] or ""),
         style=style,
-        about="One file, without a server. What it plays it plays itself; what is certified, the program has certified.",
+        about=(
+            "One file, without a server. What it plays it plays itself; what is certified, the program has certified."
+        ),
         text=escape(value["text"]),
         data=data(value),
         script=script,

@@ -7,7 +7,7 @@ from typing import Any
 
 from ..engine import program
 from ..faults import InputFault
-from ..text.files import Loaded
+from ..text.loaded import Loaded
 from ..search.explore import explore
 from ..search.flaws import WRONG, Flaw, Tried
 from ..search.playing import crowd_line, play
@@ -67,7 +67,13 @@ def refute_task(request: Request, tell: Tell) -> dict[str, Any]:
     flaw, tried = explore(system_of(loaded.net), tree, agents, seconds, progress, loaded.meets)
     if flaw is not None:
         return {"found": "flaw", **flaw_value(loaded, flaw)}
-    return {"found": "nothing", "agents": tried.agents, "asked": agents, "inputs": tried.inputs, "crowds": tried.crowds}
+    return {
+        "found": "nothing",
+        "agents": tried.agents,
+        "asked": agents,
+        "inputs": tried.inputs,
+        "crowds": tried.crowds,
+    }
 
 
 def _meetings_in(request: Request) -> list[tuple[int, int]]:

@@ -9,7 +9,8 @@ from ..protocol.nets import Net
 from ..search.playing import crowd_line
 from ..simulation.crowds import counts_of
 from ..simulation.journals import meetings_of
-from ..text.files import bundle_in, load, strict_bundle
+from ..text.files import load
+from ..text.loaded import bundle_in, strict_bundle
 from ..text.writer import text_of
 from .limits import MEETINGS_PLAYED, SECONDS
 from .protocol import NAME, Fault, loaded_of
@@ -61,7 +62,9 @@ def journal_task(request: Request, tell: Tell) -> dict[str, Any]:
         raise Fault(["the program doesn't hold this journal:", *answer.text.splitlines()[:3]])
     found = journal_list(text)
     if found is None:
-        raise Fault([f"Play shows up to {AGENTS_DRAWN} agents and {MEETINGS_PLAYED:,} meetings; this journal has more"])
+        raise Fault(
+            [f"Play shows up to {AGENTS_DRAWN} agents and {MEETINGS_PLAYED:,} meetings; this journal has more"]
+        )
     loaded = load(lines[0], NAME)
     return {**found, "replay": answer.first_line, "text": text_of(loaded.net, bundle_in(loaded), loaded.labels)}
 

@@ -150,7 +150,8 @@ class SaveHandler(Handler):
 
 
 class JobHandler(Handler):
-    """A job, as a stream of server-sent events. Where the page is closed, or doesn't want it any more, the job ends."""
+    """A job, as a stream of server-sent events. Where the page is closed, or doesn't want it any more, the job
+    ends."""
 
     task: asyncio.Task[None] | None = None
 

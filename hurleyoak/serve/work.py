@@ -10,7 +10,7 @@ import sys
 import threading
 from typing import Any, Callable
 
-from ..faults import UsageFault
+from ..faults import AskFault
 from ..faults import InputFault
 from ..engine.program import NoProgram
 from ..text.scanner import TextFault
@@ -63,7 +63,7 @@ def answer(request: dict[str, Any]) -> dict[str, Any]:
         return {"event": "fault", "told": fault.told, "faults": fault.marks}
     except (TextFault, InputFault) as fault:
         return {"event": "fault", "told": str(fault).split("\n"), "faults": faults_of(fault)}
-    except (UsageFault, NoProgram) as fault:
+    except (AskFault, NoProgram) as fault:
         return {"event": "fault", "told": str(fault).split("\n")}
     except subprocess.TimeoutExpired:
         return {"event": "fault", "told": ["the program did not answer in time"]}
@@ -72,7 +72,10 @@ def answer(request: dict[str, Any]) -> dict[str, Any]:
     except MemoryError:
         return {"event": "fault", "told": ["out of memory"]}
     except Exception as error:  # a mistake in the workbench is told, and costs this job alone
-        return {"event": "fault", "told": [f"the workbench made a mistake of its own: {type(error).__name__}: {error}"]}
+        return {
+            "event": "fault",
+            "told": [f"the workbench made a mistake of its own: {type(error).__name__}: {error}"],
+        }
 
 
 def read_line() -> bytes:

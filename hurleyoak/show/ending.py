@@ -47,7 +47,8 @@ def meet(agents: list[States], tables: list[dict[tuple[int, int], tuple[int, int
 def undecided_told(bundle_line: str, crowd: str, printed: bytes) -> list[str]:
     """Sentences on a run that ended undecided; none where what was printed isn't understood.
 
-    The states come from playing the marked meetings, and are told only where this leads to the crowd that the program printed.
+    The states come from playing the marked meetings, and are told only where this leads to the crowd that the program
+    printed.
     """
     lines = printed.decode(errors="replace").rstrip("\n").split("\n")
     found = _UNDECIDED.fullmatch(lines[-1])
@@ -75,9 +76,15 @@ def undecided_told(bundle_line: str, crowd: str, printed: bytes) -> list[str]:
 
 def _told(net: Net, agents: list[States], a: int, b: int) -> str:
     if agents[a] == agents[b]:
-        return f"the turns are used up before the crowd's end: agents {a} and {b} are both in `{_names(net, agents[a])}`, and their meeting would change that"
+        return (
+            f"the turns are used up before the crowd's end: agents {a} and {b} are both in `{_names(net, agents[a])}`,"
+            " and their meeting would change that"
+        )
     where = "" if len(net.leaves) == 1 else f" (by {', '.join(leaf_names(net))})"
-    return f"the turns are used up before the crowd's end: agent {a} is in `{_names(net, agents[a])}` and agent {b} in `{_names(net, agents[b])}`{where}, and their meeting would change that"
+    return (
+        f"the turns are used up before the crowd's end: agent {a} is in `{_names(net, agents[a])}` and agent {b} in"
+        f" `{_names(net, agents[b])}`{where}, and their meeting would change that"
+    )
 
 
 def _when(meetings: int, last: int) -> str:
@@ -85,4 +92,7 @@ def _when(meetings: int, last: int) -> str:
         return "there was no meeting: `--turns N` says how many each worker has"
     if not last:
         return f"none of the {meetings:,} meetings changed anything; `--turns N` gives more, `--seed N` other pairs"
-    return f"the last change was {meetings - last:,} meetings ago, of {meetings:,}; `--turns N` gives more, `pop settle` goes by the proof's moves"
+    return (
+        f"the last change was {meetings - last:,} meetings ago, of {meetings:,}; `--turns N` gives more, `pop settle`"
+        " goes by the proof's moves"
+    )

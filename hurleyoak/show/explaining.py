@@ -9,10 +9,11 @@ from dataclasses import dataclass, field
 from ..proof.branches import Visit, visits
 from ..proof.checking import LayerFault, layer_fault, verdict
 from ..proof.facts import Space
-from ..text.files import Loaded, LoadedBundle, predicates_differ
+from ..text.loaded import Loaded, LoadedBundle, predicates_differ
 from ..proof.names import Names
 from ..protocol.nets import Leaf
-from ..protocol.predicates import Predicate, canonical_text, read_predicate
+from ..protocol.predicatereader import read_predicate
+from ..protocol.predicates import Predicate, canonical_text
 from ..text.proofreader import ProofDraft
 from ..text.treereader import Note
 from ..protocol.combining import combined_predicate
@@ -36,8 +37,8 @@ class ToldFact:
 
 @dataclass
 class ToldNode:
-    """A node as it is shown; `text` are its lines in the `.pop` file, `sum` and `closes` are for `lin` and `residue`, whose
-    `terms` are the facts with their multipliers."""
+    """A node as it is shown; `text` are its lines in the `.pop` file, `sum` and `closes` are for `lin` and `residue`,
+    whose `terms` are the facts with their multipliers."""
 
     visit: Visit
     number: int
@@ -175,7 +176,8 @@ def _leaf(bundle: Bundle, at: int, draft: ProofDraft | None) -> ToldLeaf:
 
 
 def _closed_holes(draft: ProofDraft, text: str, states: int) -> LeafProof:
-    """A draft as a proof: open weights are 0, an open subtree is a `lin` without a fact, open layers and trees are empty."""
+    """A draft as a proof: open weights are 0, an open subtree is a `lin` without a fact, open layers and trees are
+    empty."""
 
     def tree(value: bool) -> tuple[Node, ...]:
         return tuple(Linear(()) if isinstance(n, Hole) else n for n in draft.tree(value) or [])
@@ -213,7 +215,8 @@ def explain(loaded: Loaded, bundle: Bundle, line: str) -> Explanation:
     own = verdict(bundle)
     differs = (
         [
-            f"the workbench reads this bundle otherwise, as `{own}`; the line above, the program's, is the one that counts"
+            f"the workbench reads this bundle otherwise, as `{own}`; the line above, the program's, is the one that"
+            " counts"
         ]
         if own != line
         else []

@@ -69,13 +69,15 @@ def met_text(leaf: Leaf, met: Sequence[int]) -> str:
         if len(rest) < PARTNERS_SHOWN - 1:
             return "all but " + ", ".join(leaf.states[q] for q in rest)
         return (
-            ", ".join(leaf.states[q] for q in met[: PARTNERS_SHOWN - 1]) + f" or {len(met) - PARTNERS_SHOWN + 1} others"
+            ", ".join(leaf.states[q] for q in met[: PARTNERS_SHOWN - 1])
+            + f" or {len(met) - PARTNERS_SHOWN + 1} others"
         )
     return ", ".join(leaf.states[q] for q in met)
 
 
 def arrow_texts(leaf: Leaf) -> dict[tuple[int, int], str]:
-    """From a state to another: whom an agent meets then, and where the moves have laws by which chance and in which role."""
+    """From a state to another: whom an agent meets then, and where the moves have laws by which chance and in which
+    role."""
     choices = leaf_outcomes(leaf)
     if not leaf.laws and all(len(made) == 1 for made in choices.values()):
         return {both: met_text(leaf, met) for both, met in arrows(leaf).items()}
@@ -215,7 +217,8 @@ def table_text(net: Net) -> str:
 
 
 def draw(text: str, path: str) -> None:
-    """Lets graphviz draw a picture by its file's ending; InputFault where that fails, WriteFault where it can't be written."""
+    """Lets graphviz draw a picture by its file's ending; InputFault where that fails, WriteFault where it can't be
+    written."""
     kind = path.rsplit(".", 1)[1]
     run = subprocess.run(
         [needs_graphviz(), f"-T{kind}"],

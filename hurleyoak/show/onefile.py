@@ -15,11 +15,17 @@ def _hash(text: str) -> str:
 
 def policy(script: str, style: str) -> str:
     """What the page may do: run this script, use this style, and nothing else."""
-    return f"default-src 'none'; script-src {_hash(script)}; style-src {_hash(style)}; base-uri 'none'; form-action 'none'; {TRUSTED}"
+    return (
+        f"default-src 'none'; script-src {_hash(script)}; style-src {_hash(style)}; base-uri 'none'; form-action"
+        f" 'none'; {TRUSTED}"
+    )
 
 
 def data(value: object) -> str:
     """JSON that ends no element: names of states may have any signs."""
     return (
-        json.dumps(value, separators=(",", ":")).replace("<", "\\u003c").replace(">", "\\u003e").replace("&", "\\u0026")
+        json.dumps(value, separators=(",", ":"))
+        .replace("<", "\\u003c")
+        .replace(">", "\\u003e")
+        .replace("&", "\\u0026")
     )

@@ -13,6 +13,6 @@ def one_layer_told(bundle: Bundle, line: str) -> list[str]:
     bound = int(line.removeprefix(CERTIFIED))
     times = "" if bound == 1 else f"{bound} "
     return [
-        f"each leaf has one layer, so in every run of n agents at most {times}n meetings change anything; "
-        f"random meetings come to the end within {times}n n (n - 1) on average"
+        f"each leaf has one layer, so in every run of n agents at most {times}n meetings change anything. "
+        f"Random meetings reach the end within {times}n n (n - 1) on average"
     ]

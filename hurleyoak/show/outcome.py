@@ -16,8 +16,8 @@ def told(simulation: Simulation, value: bool | None) -> list[str]:
     )
     stopped: dict[Stop | None, str] = {
         AGREED: "stopped when all agents agreed",
-        CHANGES: "stopped after so many changes; --changes N goes on",
-        MEETINGS: "stopped after so many meetings",
+        CHANGES: "stopped at the limit of changes; --changes N sets it",
+        MEETINGS: "stopped at the limit of meetings",
     }
     lines.append("terminal" if simulation.is_terminal else f"not terminal: {stopped[simulation.ended]}")
     output = simulation.output

@@ -23,12 +23,24 @@ def page(explanation: Explanation) -> str:
     parts = [
         '<!doctype html><html lang="en"><head><meta charset="utf-8">',
         f'<meta http-equiv="Content-Security-Policy" content="{policy(script, style)}">',
-        '<meta name="viewport" content="width=device-width,initial-scale=1"><meta name="color-scheme" content="light dark">',
+        (
+            '<meta name="viewport" content="width=device-width,initial-scale=1"><meta name="color-scheme"'
+            ' content="light dark">'
+        ),
         f"<title>{escape(explanation.bundle.pred)}</title><style>{style}</style></head>",
-        f'<body><main><h1><code>{escape(explanation.bundle.pred)}</code></h1><p class="verdict {"good" if good else "refused"}">{escape(explanation.line)}</p>',
+        (
+            f'<body><main><h1><code>{escape(explanation.bundle.pred)}</code></h1><p class="verdict'
+            f' {"good" if good else "refused"}">{escape(explanation.line)}</p>'
+        ),
         *(f"<p>{escape(told)}</p>" for told in one_layer_told(explanation.bundle, explanation.line)),
-        "<p class=\"small\">The first line is the proved program's. All else on this page is the workbench's own reading of the same bundle.</p>",
-        f'<noscript><pre>{escape(drawn(explanation))}</pre></noscript><div id="proof"></div></main><div id="says" hidden></div>',
+        (
+            "<p class=\"small\">The first line is the proved program's. The rest of this page is the workbench's own"
+            " reading of the same bundle.</p>"
+        ),
+        (
+            f'<noscript><pre>{escape(drawn(explanation))}</pre></noscript><div id="proof"></div></main><div id="says"'
+            " hidden></div>"
+        ),
         f'<script type="application/json" id="data">{data(explanation_value(explanation))}</script>',
         f'<script type="module">{script}</script></body></html>',
     ]

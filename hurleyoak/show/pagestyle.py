@@ -17,14 +17,16 @@ pre { overflow-x: auto; font: 12.5px/1.5 var(--mono); }
 .small { color: var(--soft); font-size: 12.5px; font-weight: 400; }
 .scroll { overflow-x: auto; }
 button.plain { border: 0; background: none; padding: 0 0.25rem; cursor: pointer; }
-#says { position: fixed; left: 0; right: 0; bottom: 0; padding: 0.5rem 1rem; background: var(--tint); border-top: 2px solid var(--accent); font: 13px var(--mono); overflow-wrap: anywhere; }
+#says { position: fixed; left: 0; right: 0; bottom: 0; padding: 0.5rem 1rem; background: var(--tint);
+  border-top: 2px solid var(--accent); font: 13px var(--mono); overflow-wrap: anywhere; }
 @media (max-width: 30rem) { main { padding: 0.6rem 0.6rem 6rem; } }
 """
 
 SCRIPT = """
 const says = document.getElementById("says");
 const show = (text) => { says.textContent = text; says.hidden = false; };
-document.getElementById("proof").append(render(JSON.parse(document.getElementById("data").textContent), { onSays: show }));
+const data = JSON.parse(document.getElementById("data").textContent);
+document.getElementById("proof").append(render(data, { onSays: show }));
 document.addEventListener("keydown", (event) => { if (event.key === "Escape") says.hidden = true; });
 const bad = document.querySelector("li.bad, tr.bad, #proof p.refused");
 if (bad) {

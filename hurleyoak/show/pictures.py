@@ -61,7 +61,8 @@ def _axes(title: str, below: str) -> tuple[Any, Any]:
 
 
 def _labels(axes: Any, names: Sequence[str], colours: Sequence[str], ends: Sequence[float]) -> None:
-    """Names to the right of the lines' ends; `ends` are heights from 0 to 1. A name that had to move has a line to its own."""
+    """Names to the right of the lines' ends; `ends` are heights from 0 to 1. A name that had to move has a line to its
+    own."""
     for name, colour, end, height in zip(names, colours, ends, apart(ends, LABEL_ROOM)):
         if abs(height - end) > MOVED:
             axes.plot(LEADER, [end, height], transform=axes.transAxes, clip_on=False, gid="leader", **_thin(colour))
@@ -160,7 +161,9 @@ def draw_curves(shown: Sequence[Shown], is_log: bool = False) -> Any:
 
 def _fitted(axes: Any, fit: Fit, low: float, high: float, colour: str, number: int) -> None:
     sizes = [low * (high / low) ** (i / (FIT_POINTS - 1)) for i in range(FIT_POINTS)]
-    axes.plot(sizes, [fit.at(n) for n in sizes], color=colour, linewidth=1.0, linestyle=(0, (5, 3)), gid=f"fit{number}")
+    axes.plot(
+        sizes, [fit.at(n) for n in sizes], color=colour, linewidth=1.0, linestyle=(0, (5, 3)), gid=f"fit{number}"
+    )
 
 
 def _raised(text: str) -> str:

@@ -17,18 +17,18 @@ GLOSSES = {
     "predicate": "it is used once it is opened",
     "wrong": "somebody is wrong",
     "value": "what the predicate says of the input",
-    "absent": "nobody is in the state",
-    "here": "somebody is in the state",
+    "absent": "no agent is in the state",
+    "here": "an agent is in the state",
     "one": "just one is",
     "single": "two of them would meet",
     "leaves": "a move left the set",
     "never": "the move was not taken",
-    "none": "nobody started so",
-    "empty": "nobody is in the set",
+    "none": "no agent started so",
+    "empty": "no agent is in the set",
     "helped": "but helpers start in it",
-    "some": "somebody is in the set",
+    "some": "an agent is in the set",
     "enters": "a move entered the set",
-    "starts": "somebody started in the set",
+    "starts": "an agent started in the set",
     "above": "the sum is above 0",
     "equal": "the sum is 0",
     "below": "the sum is below 0",
@@ -63,7 +63,10 @@ def closes_told(names: Names, facts: Sequence[Fact], node: Linear | Residue) -> 
         return f"{node.modulus} divides all coefficients and not the constant, so not the sum; but it divides the sum"
     fact = denied(facts, node.modulus, coefficients, constant)
     assert fact is not None
-    return f"{node.modulus} divides the sum, and it differs by multiples of {node.modulus} from what {node.modulus} doesn't divide: {names.sum(fact.terms, fact.constant)}"
+    return (
+        f"{node.modulus} divides the sum, and it differs by multiples of {node.modulus} from what"
+        f" {node.modulus} doesn't divide: {names.sum(fact.terms, fact.constant)}"
+    )
 
 
 def _linear_lacks(names: Names, facts: Sequence[Fact], fact_names: Sequence[str], node: Linear) -> list[str]:
@@ -138,7 +141,8 @@ def node_lacks(
         return _index_lacks(space, facts, node)
     if why == "no-twin" and isinstance(node, Twin):
         return [
-            f"no move that changes something takes {names.state(node.state)} twice, so two of it may stand at the end"
+            f"no move that changes something takes {names.state(node.state)} twice, so two agents may be in it at"
+            " the end"
         ]
     if why == "not-open" and isinstance(node, Open):
         there = [fact_names[i] for i, fact in enumerate(facts) if fact.kind == HOLDS]
@@ -160,7 +164,8 @@ def layer_lacks(names: Names, leaf: Leaf, layers: Sequence[Layer], fault: LayerF
         p, q, r, s = leaf.moves[fault.at]
         w = layer.weights
         return [
-            f"move {fault.at}, {move}, has to lower the weights of its layer: before it {w[p]} + {w[q]} = {w[p] + w[q]}, after it {w[r]} + {w[s]} = {w[r] + w[s]}"
+            f"move {fault.at}, {move}, has to lower the weights of its layer: before it {w[p]} + {w[q]} ="
+            f" {w[p] + w[q]}, after it {w[r]} + {w[s]} = {w[r] + w[s]}"
         ]
     return _wakes_lacks(names, leaf, layers, fault)
 
@@ -185,7 +190,13 @@ def _wakes_lacks(names: Names, leaf: Leaf, layers: Sequence[Layer], fault: Layer
     before = agents_before(leaf, t, u)
     after = [*leaf.moves[t][2:], *before[2:]]
     return [
-        f"move {t}, `{names.move(t)}`, of layer {place[t]} makes move {u}, `{names.move(u)}`, of layer {place[u]} possible again",
-        f"before it the agents {', '.join(map(names.state, before))} stand there, and no move of a layer before {place[t]} is possible among them",
+        (
+            f"move {t}, `{names.move(t)}`, of layer {place[t]} makes move {u}, `{names.move(u)}`, of layer"
+            f" {place[u]} possible again"
+        ),
+        (
+            f"before it the agents {', '.join(map(names.state, before))} are there, and no move of a layer before"
+            f" {place[t]} is possible among them"
+        ),
         f"after it there are {', '.join(map(names.state, after))}, and `{names.move(u)}` is possible",
     ]

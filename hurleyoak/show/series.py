@@ -55,7 +55,8 @@ def cropped(curve: Curve, low: float, high: float | None) -> Curve:
     inside = [at for at, time in enumerate(curve.times) if first <= time <= last]
     if first >= curve.times[-1] or first >= last:
         raise InputFault(
-            f"the curve goes from 0 to {spelled(curve.times[-1] / curve.agents)} meetings per agent, and has nothing there"
+            f"the curve goes from 0 to {spelled(curve.times[-1] / curve.agents)} meetings per agent, and has nothing"
+            " there"
         )
     kept = [*before, *inside]
     times = [max(curve.times[at], int(first)) for at in kept]
@@ -72,7 +73,8 @@ Group = tuple[str, list[int]]  # a line's name, and the numbers of the states th
 def _groups(
     names: Sequence[str], outputs: Sequence[bool], most: Sequence[float], by_output: bool | None, states: Sequence[str]
 ) -> list[Group]:
-    """The lines of a picture: the states that are named; by output where it is asked for, or where there are many states."""
+    """The lines of a picture: the states that are named; by output where it is asked for, or where there are many
+    states."""
     for name in states:
         if name not in names:
             raise InputFault(f"`{name}` is no state of the curve; it has {', '.join(names)}")

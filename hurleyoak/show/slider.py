@@ -1,4 +1,5 @@
-"""A list of meetings as text, and as one page with a slider. The crowd at the end is the one that the program printed."""
+"""A list of meetings as text, and as one page with a slider. The crowd at the end is the one that the program
+printed."""
 from __future__ import annotations
 
 from html import escape
@@ -15,7 +16,8 @@ PARTS = """
 input[type=range] { width: 100%; margin: 0.8rem 0 0; }
 .told { font: 14px var(--mono); min-height: 1.6em; margin: 0.3rem 0 0.8rem; overflow-wrap: anywhere; }
 .row { display: flex; gap: 0.4rem; }
-button { font: inherit; color: inherit; background: var(--panel); border: 1px solid var(--strong); border-radius: 4px; padding: 0.2rem 0.7rem; cursor: pointer; }
+button { font: inherit; color: inherit; background: var(--panel); border: 1px solid var(--strong);
+  border-radius: 4px; padding: 0.2rem 0.7rem; cursor: pointer; }
 table { border-collapse: collapse; width: 100%; }
 th, td { text-align: left; padding: 0.15rem 0.6rem 0.15rem 0; font-variant-numeric: tabular-nums; }
 td.count { text-align: right; }
@@ -75,10 +77,16 @@ def meetings_page(made: Meetings, printed: Sequence[str]) -> str:
     parts = [
         '<!doctype html><html lang="en"><head><meta charset="utf-8">',
         f'<meta http-equiv="Content-Security-Policy" content="{policy(script, style)}">',
-        '<meta name="viewport" content="width=device-width,initial-scale=1"><meta name="color-scheme" content="light dark">',
+        (
+            '<meta name="viewport" content="width=device-width,initial-scale=1"><meta name="color-scheme"'
+            ' content="light dark">'
+        ),
         f"<title>{title}</title><style>{style}</style></head>",
         f'<body><main><h1>{title}</h1><p class="verdict">{escape(printed[-1])}</p>',
-        "<p class=\"small\">The line above is the proved program's, of the last crowd, which it played too. The crowds on the way are the workbench's own.</p>",
+        (
+            '<p class="small">The line above is the proved program\'s, of the last crowd, which it played too. The'
+            " crowds on the way are the workbench's own.</p>"
+        ),
         f'<noscript><pre>{escape(meetings_text(steps))}</pre></noscript><div id="slider"></div></main>',
         f'<script type="application/json" id="data">{data(_value(made, steps))}</script>',
         f'<script type="module">{script}</script></body></html>',

@@ -29,7 +29,8 @@ def _printed(net: Net, agents: Sequence[States]) -> list[str]:
 
 
 def steps_told(lines: Sequence[str], printed: str) -> list[str] | None:
-    """The crowds and moves of what `play` was asked: a net, a crowd line and meetings; None where they lead to another crowd than it printed."""
+    """The crowds and moves of what `play` was asked: a net, a crowd line and meetings; None where they lead to another
+    crowd than it printed."""
     try:
         net = net_of(read_json(lines[0]))
     except (FormatFault, ValueError):

@@ -4,12 +4,13 @@ from __future__ import annotations
 from itertools import groupby
 from typing import Iterable, Sequence
 
-from ..text.files import Loaded
+from ..text.loaded import Loaded
 from ..proof.names import Names
 from ..protocol.nets import Net
-from ..protocol.predicates import Predicate, read_predicate, value_at
-from ..search.flaws import RESTLESS, ROUND_SHOWN, WRONG, Flaw, Tried
-from ..search.jobs import GAVE_UP, MISSES, NO_LAYERS, WHOLE, Result
+from ..protocol.predicatereader import read_predicate
+from ..protocol.predicates import Predicate, value_at
+from ..search.flaws import ROUND_SHOWN, WRONG, Flaw, Tried
+from ..search.jobs import WHOLE, Result, Why
 from ..search.playing import Played, crowd_line
 
 MOVES_SHOWN = 24
@@ -18,7 +19,7 @@ MEETINGS_SHOWN = 200
 
 def agents_told(names: Names, crowd: Sequence[int]) -> str:
     """A crowd as `2 A, 1 b`."""
-    return ", ".join(f"{k} {names.state(q)}" for q, k in enumerate(crowd) if k) or "nobody"
+    return ", ".join(f"{k} {names.state(q)}" for q, k in enumerate(crowd) if k) or "no agents"
 
 
 def moves_told(names: Names, runs: Iterable[tuple[int, int]]) -> str:
@@ -50,18 +51,21 @@ def flaw_told(net: Net, tree: Predicate, text: str, flaw: Flaw, played: Played |
             if k and names.leaf.outputs[q] != value_at(tree, flaw.counts)
         ]
         lines.append(
-            f"the protocol is wrong: at {_input(net, flaw.counts)} the predicate `{text}` is {want}, and {_count(len(flaw.moves), 'move')} lead{'s' if len(flaw.moves) == 1 else ''} "
-            f"to a terminal crowd in which {', '.join(wrong)} output{'s' if len(wrong) == 1 else ''} {other}"
+            f"the protocol is wrong: at {_input(net, flaw.counts)} the predicate `{text}` is {want}, and"
+            f" {_count(len(flaw.moves), 'move')} lead{'s' if len(flaw.moves) == 1 else ''} to a terminal crowd in"
+            f" which {', '.join(wrong)} output{'s' if len(wrong) == 1 else ''} {other}"
         )
     else:
         lines.append(
-            f"the protocol is wrong, and doesn't end: at {_input(net, flaw.counts)} {_way(flaw)} no terminal crowd can be reached"
+            f"the protocol is wrong, and doesn't end: at {_input(net, flaw.counts)} {_way(flaw)} no terminal crowd can"
+            " be reached"
         )
         lines.append(
-            f"the predicate `{text}` is {want} there, and from each crowd that is reached then one is reached in which an agent outputs {other}"
+            f"the predicate `{text}` is {want} there, and every crowd after it can reach one in which an agent outputs"
+            f" {other}"
         )
         lines.append(
-            "that none can be reached is the workbench's own word, by trying all; `play` shows the way to the crowd alone"
+            "the workbench says that none can be reached, as it tried all; `play` shows only the way to the crowd"
         )
     lines.append(f"the end: {agents_told(names, flaw.crowd)}")
     lines += _round(names, flaw)
@@ -78,8 +82,10 @@ def restless_told(net: Net, tree: Predicate, text: str, flaw: Flaw, tried: Tried
     names = _names(net, flaw)
     want = str(value_at(tree, flaw.counts)).lower()
     lines = [
-        f"stable, but not silent: at {_input(net, flaw.counts)} {_way(flaw)} no terminal crowd can be reached, while every agent outputs {want} for ever, "
-        f"the value of `{text}`",
+        (
+            f"stable, but not silent: at {_input(net, flaw.counts)} {_way(flaw)} no terminal crowd can be reached,"
+            f" while every agent outputs {want} forever, the value of `{text}`"
+        ),
         f"the crowd: {agents_told(names, flaw.crowd)}",
         *_round(names, flaw),
     ]
@@ -87,12 +93,14 @@ def restless_told(net: Net, tree: Predicate, text: str, flaw: Flaw, tried: Tried
         lines.append(f"the way: {moves_told(names, ((t, len(list(run))) for t, run in groupby(flaw.moves)))}")
     if tried is not None and tried.agents:
         lines.append(
-            f"no wrong output that stays was found: all inputs of up to {_count(tried.agents, 'agent')} beside helpers were tried"
+            f"no wrong output that stays was found: all inputs of up to {_count(tried.agents, 'agent')} plus helpers"
+            " were tried"
         )
     lines.append(
-        "All of this is the workbench's own word, by trying all crowds. In the literature such a protocol is right, as its outputs come to rest; "
-        'a certificate asks that every crowd can come to rest as well (docs/guide/certificates.md, "What can be certified"). '
-        "What helps: leave out the moves that go round, or let them need a state that they use up"
+        "The workbench alone says all of this, as it tried all crowds. In the literature such a protocol is right, as"
+        " its outputs come to rest. A certificate also asks that every crowd can come to rest"
+        ' (docs/guide/certificates.md, "What can be certified"). What helps: leave out the moves that go round, or let'
+        " them need a state that they use up"
     )
     return "\n".join(lines)
 
@@ -117,8 +125,10 @@ def _unplayed(names: Names, flaw: Flaw) -> list[str]:
     hidden = flaw.hidden
     return [
         f"the way: {moves_told(names, ((t, len(list(run))) for t, run in groupby(flaw.moves)))}",
-        f"no meeting takes {moves_told(names, ((t, 1) for t in hidden))}, as another move for the same states comes first; so `play` cannot show it, and this is the workbench's own word. "
-        "A certificate speaks of all moves",
+        (
+            f"no meeting takes {moves_told(names, ((t, 1) for t in hidden))}, as another move for the same states"
+            " comes first. So `play` can't show it, and only the workbench says so. A certificate speaks of all moves"
+        ),
     ]
 
 
@@ -145,15 +155,15 @@ def failure_told(loaded: Loaded, result: Result) -> str:
     text = loaded.parts[result.at]
     names = Names(net.names, net.leaves[result.at])
     who = f"leaf {result.at}: " if len(net.leaves) > 1 else ""
-    if result.why == RESTLESS:
+    if result.why == Why.RESTLESS:
         assert result.restless is not None
         tree = read_predicate(text, net.names)
         return who + restless_told(net, tree, text, result.restless, result.tried)
-    if result.why == MISSES:
+    if result.why == Why.MISSES:
         return who + _misses(names, net, result, text)
-    if result.why == NO_LAYERS:
+    if result.why == Why.NO_LAYERS:
         return who + _no_layers(names, result)
-    if result.why == GAVE_UP:
+    if result.why == Why.GAVE_UP:
         advice = (
             "Give it more time by --seconds, or write a part of the proof yourself and `?` for the rest"
             if "time" in result.told
@@ -170,28 +180,37 @@ def _misses(names: Names, net: Net, result: Result, text: str) -> str:
     want = str(value_at(read_predicate(text, net.names), flaw.counts)).lower()
     way = moves_told(names, ((t, len(list(run))) for t, run in groupby(flaw.moves)))
     end = (
-        f"leads to a terminal crowd in which not all output {want}"
+        f"leads to a terminal crowd in which not all agents output {want}"
         if flaw.kind == WRONG
-        else "leads to a crowd from which none is reached where all output it for ever"
+        else "leads to a crowd from which none is reached where all output it forever"
     )
     return (
-        f"it misses its own predicate: at {_input(net, flaw.counts)} `{text}` is {want}, and {way or 'no move'} {end}: {agents_told(names, flaw.crowd)}\n"
-        "The whole net was not found wrong there. A proof goes leaf by leaf, so each leaf wants a predicate that it computes itself.\n"
-        "What helps: another `computes` for this leaf, with a whole `predicate` of the combination's shape; or a change of the leaf"
+        f"it misses its own predicate: at {_input(net, flaw.counts)} `{text}` is {want}, and {way or 'no move'} {end}:"
+        f" {agents_told(names, flaw.crowd)}\nThe whole net was not found wrong there. A proof goes leaf by leaf, so"
+        " each leaf needs a predicate that it computes itself.\nWhat helps: change the leaf, or give it another"
+        " `computes`, with a whole `predicate` of the combination's shape"
     )
 
 
 def _no_layers(names: Names, result: Result) -> str:
     if "time" in result.told:
-        return f"layers weren't found, and may be there: {result.told}. What helps: `--seconds` with more; or layers of yours, with `?` for the weights"
+        return (
+            f"layers weren't found, but may exist: {result.told}. What helps: more `--seconds`, or layers of your own"
+            " with `?` for the weights"
+        )
     told = f"no layers were found{': ' + result.told if result.told else ''}"
     if result.are_none:
-        told += "; there are none, of whatever number (shown by SMT)"
+        told += "; there are none (shown by SMT)"
     if result.moves:
-        told += f"\nthese moves, some times each, leave a crowd as it was, so they fit into no layer together, and no order of layers was found for them: {moves_told(names, ((t, 1) for t in result.moves))}"
-    return told + (
-        "\nWhat helps: let one of them need a state that the others don't bring back; merge leaders or helpers by moves of their own, which come first; "
-        "or leave out a move that isn't needed. A protocol whose agents change forever has no layers, and can't be certified"
+        told += (
+            "\nthese moves, each taken a number of times, leave a crowd as it was. So they fit into no layer together,"
+            f" and no order of layers was found for them: {moves_told(names, ((t, 1) for t in result.moves))}"
+        )
+    return (
+        told
+        + "\nWhat helps: let one of them need a state that the others don't bring back. Or merge leaders or helpers"
+        " first, by moves of their own. Or leave out a move that isn't needed. A protocol whose agents change forever"
+        " has no layers, and can't be certified"
     )
 
 
@@ -203,17 +222,26 @@ def _wrong_end(net: Net, names: Names, result: Result, text: str) -> str:
     active = set(leaf.active)
     way = moves_told(names, ((t, n) for t, n in enumerate(taken) if n and t in active))
     told = (
-        f"tree for {result.kind}: no sum, trap, siphon or pair that could react excludes this candidate for a wrong end\n"
-        f"input {_input(net, counts)}, where `{text}` is {result.kind}; end: {agents_told(names, end)}; taken, in some order: {way or 'no move'}\n"
+        f"tree for {result.kind}: no sum, trap, siphon or pair that could react excludes this candidate for a wrong"
+        f" end.\nInput {_input(net, counts)}, where `{text}` is {result.kind}; end: {agents_told(names, end)}; taken,"
+        f" in some order: {way or 'no move'}\n"
     )
     if result.order is not None and result.order.is_whole and not result.order.is_found:
-        told += f"These moves can be taken in no order: {_count(result.order.crowds, 'crowd')} that they lead to {'was' if result.order.crowds == 1 else 'were'} tried. Other moves may lead there\n"
-    if result.crowds is None:
-        return told + (
-            "Whether it can be reached is not known: its input has too many crowds to try. Either the protocol is wrong, or its proof needs a reason that these nodes can't give. "
-            "What helps: `pop refute` with more agents; or a move that converts the states of this end"
+        told += (
+            f"No order of these moves is possible: `find` tried {_count(result.order.crowds, 'crowd')} that they lead"
+            " to. Other moves may lead there\n"
         )
-    return told + (
-        f"It can't be reached: all {result.crowds} crowds of this input were tried, and none is a wrong end. The protocol is right there, and its proof needs a reason that these nodes can't give, "
-        "such as in which order moves were taken. What helps: a protocol in which the set of these states is a trap or siphon, by a move that converts them, or without a move that enters it"
+    if result.crowds is None:
+        return (
+            told
+            + "It isn't known whether it can be reached: its input has too many crowds to try. Either the protocol is"
+            " wrong, or its proof needs a reason that these nodes can't give. What helps: `pop refute` with more"
+            " agents; or a move that converts the states of this end"
+        )
+    return (
+        told
+        + f"It can't be reached: all {result.crowds} crowds of this input were tried, and none is a wrong end. The"
+        " protocol is right there, and its proof needs a reason that these nodes can't give, such as in which order"
+        " moves were taken. What helps: make the set of these states a trap or siphon, by a move that converts them,"
+        " or without a move that enters it"
     )

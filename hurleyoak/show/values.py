@@ -1,4 +1,5 @@
-"""An explanation as a value for the page, which `static/proof.js` shows; the page of `explain --html` shows the same."""
+"""An explanation as a value for the page, which `static/proof.js` shows; the page of `explain --html` shows the
+same."""
 from __future__ import annotations
 
 from typing import Any, Sequence

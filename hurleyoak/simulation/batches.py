@@ -1,12 +1,13 @@
-"""Runs a crowd by batches of meetings, for crowds so large that nearly each meeting is of agents who haven't met before.
+"""Runs a crowd by batches of meetings, for crowds so large that nearly each meeting is of agents who haven't met
+before.
 
-A batch is a run of meetings in which no agent takes part twice (Berenbrink, Hammer, Kaaser, Meyer, Penschuck, Tran 2020).
-How long it is depends on the number of agents alone. Its first agents and its second agents are drawn without order, by
-hypergeometric draws, and so are the pairs that they make; coins are tossed by multinomial draws. Then comes the meeting
-that ends the batch, of one or two agents who took part in it.
+A batch is a run of meetings in which no agent takes part twice (Berenbrink, Hammer, Kaaser, Meyer, Penschuck, Tran
+2020). How long it is depends on the number of agents alone. Its first agents and its second agents are drawn without
+order, by hypergeometric draws, and so are the pairs that they make; coins are tossed by multinomial draws. Then comes
+the meeting that ends the batch, of one or two agents who took part in it.
 
-Exact but for the floats in numpy's draws and in the lengths' distribution: each is right to some 15 digits. The place of
-the last change in a batch, and the moment since which all agents agree, are drawn from the batch's own order.
+Exact but for the floats in numpy's draws and in the lengths' distribution: each is right to some 15 digits. The place
+of the last change in a batch, and the moment since which all agents agree, are drawn from the batch's own order.
 """
 from __future__ import annotations
 
@@ -66,7 +67,8 @@ class Batcher:
         self.lonely = np.diag(self.reacts).copy()
 
     def _close(self) -> bool:
-        """Gives the simulation all words that can come up, and notes what they become; false where there are too many."""
+        """Gives the simulation all words that can come up, and notes what they become; false where there are too
+        many."""
         run = self.run
         at = 0
         while at < len(run.words):
@@ -137,7 +139,8 @@ class Batcher:
         return latest
 
     def _parts(self, most: int) -> list[Part]:
-        """The meetings of a batch, and the one that ends it unless the batch is cut; the counts are those behind them."""
+        """The meetings of a batch, and the one that ends it unless the batch is cut; the counts are those behind
+        them."""
         run = self.run
         length = self._length()
         is_cut = length >= most
@@ -228,7 +231,8 @@ class Batcher:
         return taken, [k - some for k, some in zip(counts, taken)]
 
     def _good(self, good: int, bad: int, sample: int) -> int:
-        """How many good ones are in a sample. Where there are more bad ones than numpy takes, the crowd is cut in halves."""
+        """How many good ones are in a sample. Where there are more bad ones than numpy takes, the crowd is cut in
+        halves."""
         if not good or not sample:
             return 0
         if not bad:
@@ -260,7 +264,8 @@ class Batcher:
 
 
 def _lasting(agents: int) -> np.ndarray[tuple[int], np.dtype[np.float64]]:
-    """The probability that the first k meetings are of 2k different agents, for k from 0 on; negative, so that it ascends."""
+    """The probability that the first k meetings are of 2k different agents, for k from 0 on; negative, so that it
+    ascends."""
     most = min(agents // 2, int(LENGTHS * sqrt(agents)))
     left = agents - 2.0 * np.arange(most)
     logs = np.log(left) + np.log(left - 1) - np.log(float(agents)) - np.log(agents - 1.0)

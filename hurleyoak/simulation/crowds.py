@@ -4,7 +4,7 @@ from __future__ import annotations
 import re
 from typing import Sequence
 
-from ..faults import UsageFault
+from ..faults import AskFault
 from ..faults import InputFault
 from ..protocol.nets import Net
 from .simulation import AGENT_LIMIT
@@ -13,24 +13,25 @@ _COUNT = re.compile(r"([A-Za-z_][A-Za-z0-9_]*)=([0-9]{1,20})")
 
 
 def whole_word(word: str, text: str, low: int, high: int) -> int:
-    """The whole number that follows an option, or a UsageFault."""
+    """The whole number that follows an option, or a AskFault."""
     if not re.fullmatch(r"[0-9]{1,30}", text) or not low <= int(text) <= high:
-        raise UsageFault(f"`{word}` is followed by a whole number from {low} to {high}, found `{text}`")
+        raise AskFault(f"`{word}` is followed by a whole number from {low} to {high}, found `{text}`")
     return int(text)
 
 
 def counts_of(net: Net, words: Sequence[str]) -> tuple[int, ...]:
-    """The counts of all variables, 0 where one isn't named; InputFault where they make no crowd of 2 to 10^9 agents."""
+    """The counts of all variables, 0 where one isn't named; InputFault where they make no crowd of 2 to 10^9
+    agents."""
     counts: dict[str, int] = {}
     for word in words:
         match = _COUNT.fullmatch(word)
         if match is None:
-            raise UsageFault(f"`{word}` is no count of a variable, as in `{net.names[0]}=30`")
+            raise AskFault(f"`{word}` is no count of a variable, as in `{net.names[0]}=30`")
         name, count = match[1], int(match[2])
         if name not in net.names:
             raise InputFault(f"`{name}` is no variable of the net; it has {', '.join(net.names)}")
         if name in counts:
-            raise UsageFault(f"variable `{name}` has two counts")
+            raise AskFault(f"variable `{name}` has two counts")
         counts[name] = count
     agents = sum(counts.values()) + len(net.leaves[0].helpers)
     if not 2 <= agents <= AGENT_LIMIT:

@@ -17,8 +17,8 @@ SPACING = 200  # a row is at least 1/200 later than the one before it
 class Curve:
     """Counts by word at some meetings, each held until the next row.
 
-    `outputs` says for each word what it outputs; `last_change` and `since` are numbers of meetings: the last one that
-    changed something, and the one since which all agents output the same (None: they don't).
+    `outputs` says for each word what it outputs. `last_change` is the number of the last meeting that changed
+    something. `since` is that of the meeting since which all agents output the same, or None.
     """
 
     title: str

@@ -7,7 +7,7 @@ import json
 from dataclasses import dataclass, field
 from typing import Callable, Sequence
 
-from ..faults import InputFault, UsageFault
+from ..faults import AskFault, InputFault
 from ..protocol.nets import Net
 from ..text.jsontext import read_json
 from .carrying import Limits, batches_of, go_on
@@ -79,7 +79,7 @@ def _path(run: Simulation, every: float, meetings: int, outputs: dict[str, bool]
         outputs.update((run.reactions.name(word), run.reactions.output(word)) for word in crowd)
         path.rows.append({run.reactions.name(word): k for word, k in crowd.items()})
         if len(path.rows) > TIMES_LIMIT:
-            raise UsageFault(f"a run has over {TIMES_LIMIT:,} times of the grid: a greater `--every` gives fewer")
+            raise AskFault(f"a run has over {TIMES_LIMIT:,} times of the grid: a greater `--every` gives fewer")
         if run.ended == TERMINAL or run.meetings >= meetings:
             path.last_change, path.output, path.is_terminal = run.last_change, run.output, run.is_terminal
             return path
@@ -146,8 +146,10 @@ def told(made: Ensemble, value: bool | None) -> list[str]:
     }
     lines = [
         f"runs {runs}, each of {agents} agents; {made.terminal} came to a terminal crowd",
-        f"last change after {quantile(last, 0.5):.4g} meetings for each agent in the median, "
-        f"{quantile(last, LOW):.4g} to {quantile(last, HIGH):.4g} in eight of ten",
+        (
+            f"last change after {quantile(last, 0.5):.4g} meetings for each agent in the median, "
+            f"{quantile(last, LOW):.4g} to {quantile(last, HIGH):.4g} in eight of ten"
+        ),
         "output " + ", ".join(f"{word} in {k}" for word, k in said.items() if k),
     ]
     if value is not None:

@@ -33,7 +33,8 @@ RAISED: dict[str, Callable[[float], float]] = {EXPONENTIAL: lambda n: n, BEYOND:
 
 @dataclass(frozen=True)
 class Fit:
-    """factor * shape(n), factor * base^n, or factor * base^(n log n). `off` is the greatest relative error; the least `score` fits best."""
+    """factor * shape(n), factor * base^n, or factor * base^(n log n). `off` is the greatest relative error; the least
+    `score` fits best."""
 
     shape: str
     factor: float
@@ -130,10 +131,13 @@ def growth_told(what: str, sizes: Sequence[float], numbers: Sequence[float]) -> 
     """A sentence on how the medians grow."""
     fits = fits_of(sizes, numbers)
     if not fits:
-        return f"{what}: {LEAST_SIZES} sizes with a median are wanted to tell how it grows"
+        return f"{what}: {LEAST_SIZES} sizes with a median are needed to tell how it grows"
     span = f"n = {min(sizes):g} to {max(sizes):g}"
     if max(sizes) < NEAR * min(sizes):
-        return f"{what}: the sizes are too near each other to tell how it grows ({span}); the greatest is to be {NEAR:g} times the least"
+        return (
+            f"{what}: the sizes are too near each other to tell how it grows ({span}); the greatest is to be"
+            f" {NEAR:g} times the least"
+        )
     best, next_ = fits[0], fits[1]
     power = power_of(sizes, numbers)
     if best.off > GOOD:

@@ -80,7 +80,8 @@ def read_folder(path: str, gathered: Gathered) -> None:
 
 @contextmanager
 def journal_of(path: str, gathered: Gathered) -> Iterator[None]:
-    """Takes the results that a journal has, and keeps each new one in it: after a kill the same words go on from there."""
+    """Takes the results that a journal has, and keeps each new one in it: after a kill the same words go on from
+    there."""
     try:
         with open(path, "a+", encoding="utf-8", errors="surrogateescape") as file:
             file.seek(0)

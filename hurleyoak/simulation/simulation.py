@@ -57,9 +57,9 @@ TERMINAL, AGREED, MEETINGS, CHANGES = Stop.TERMINAL, Stop.AGREED, Stop.MEETINGS,
 class Simulation:
     """A crowd on its way.
 
-    `meetings` and `changes` count those so far, `last_change` is the number of the meeting that last changed something.
-    `since` is the number of the meeting since which all agents output the same, None where they don't. `ended` is
-    None, or why it stopped.
+    `meetings` and `changes` count those so far, `last_change` is the number of the meeting that last changed
+    something. `since` is the number of the meeting since which all agents output the same, None where they don't.
+    `ended` is None, or why it stopped.
     """
 
     def __init__(self, net: Net, counts: Sequence[int], seed: int) -> None:

@@ -4,7 +4,7 @@ from __future__ import annotations
 import re
 from typing import Sequence
 
-from ..faults import UsageFault
+from ..faults import AskFault
 from .simulation import AGENT_LIMIT
 
 SIZE_LIMIT = 200
@@ -25,7 +25,7 @@ def _values(text: str) -> list[int] | None:
         return None
     value, high, by = int(match[1]), int(match[2]), int(match[4])
     if by < (2 if match[3] == "*" else 1) or value < 1:
-        raise UsageFault(f"the range `{text}` doesn't grow")
+        raise AskFault(f"the range `{text}` doesn't grow")
     out: list[int] = []
     while value <= high and len(out) <= SIZE_LIMIT:
         out.append(value)
@@ -45,25 +45,25 @@ def _of_other(text: str, known: dict[str, list[int]]) -> list[int] | None:
 
 
 def sizes_of(words: Sequence[str]) -> list[dict[str, int]]:
-    """The counts of each size, by the variables' names; UsageFault where the words mean none."""
+    """The counts of each size, by the variables' names; AskFault where the words mean none."""
     known: dict[str, list[int]] = {}
     for word in words:
         match = _PART.fullmatch(word)
         values = match and (_values(match[2]) or _of_other(match[2], known))
         if not match or not values:
-            raise UsageFault(f"`{word}` names no sizes: they are written {FORMS}")
+            raise AskFault(f"`{word}` names no sizes: they are written {FORMS}")
         if match[1] in known:
-            raise UsageFault(f"variable `{match[1]}` has two ranges")
+            raise AskFault(f"variable `{match[1]}` has two ranges")
         known[match[1]] = values
     lengths = {len(values) for values in known.values()} - {1}
     if not known or len(lengths) > 1:
         told = "are in step: equally many values each" if known else f"are missing: they are written {FORMS}"
-        raise UsageFault(f"the sizes {told}")
+        raise AskFault(f"the sizes {told}")
     length = max(lengths, default=1)
     if length > SIZE_LIMIT:
-        raise UsageFault(f"a sweep has at most {SIZE_LIMIT} sizes")
+        raise AskFault(f"a sweep has at most {SIZE_LIMIT} sizes")
     sizes = [{name: values[at % len(values)] for name, values in known.items()} for at in range(length)]
     for size in sizes:
         if min(size.values()) < 0 or sum(size.values()) > AGENT_LIMIT:
-            raise UsageFault(f"the counts {size} are not between 0 and {AGENT_LIMIT:,}")
+            raise AskFault(f"the counts {size} are not between 0 and {AGENT_LIMIT:,}")
     return sizes

@@ -9,14 +9,17 @@ from enum import StrEnum
 from typing import Any
 
 from ..engine import program
-from ..faults import UsageFault
+from ..faults import AskFault
 from ..faults import InputFault
 from ..text.families import values_of
-from ..text.files import Loaded, load_path, read_text, strict_bundle, with_predicate
+from ..text.files import load_path, read_text
+from ..text.given import with_predicate
+from ..text.loaded import Loaded, strict_bundle
 from ..text.membersof import load_member
 from ..text.jsontext import read_json
 from ..protocol.nets import compact
-from ..protocol.predicates import read_predicate, value_at
+from ..protocol.predicatereader import read_predicate
+from ..protocol.predicates import value_at
 from .crowds import counts_of
 from .journals import read_journal
 from .seeds import seed_of
@@ -100,12 +103,12 @@ def mark_of(loaded: Loaded) -> str:
 
 
 def read_job(text: str) -> Job:
-    """The job of these words; UsageFault where they are none."""
+    """The job of these words; AskFault where they are none."""
     try:
         by, path, *rest = shlex.split(text)
         given = dict(word.split("=", 1) for word in rest)
         if by not in list(Way):
-            raise UsageFault(f"a job is done by simulate or by run, not by `{by}`")
+            raise AskFault(f"a job is done by simulate or by run, not by `{by}`")
         job = Job(
             by=Way(by),
             path=path,
@@ -118,7 +121,7 @@ def read_job(text: str) -> Job:
             member=given.get("with", ""),
         )
     except (ValueError, KeyError):
-        raise UsageFault(f"these are no words of a job: {text}") from None
+        raise AskFault(f"these are no words of a job: {text}") from None
     return job
 
 

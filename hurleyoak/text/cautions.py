@@ -39,14 +39,16 @@ def _repeated(leaf: Leaf, names: Names, places: Sequence[Place] | None) -> list[
             continue  # (what is said of the laws says it)
         elif before != after and (u := taken.setdefault(before, t)) != t:
             out.append(
-                f"{lead} hidden by `{names.move(u)}` ({place(u)}): a run takes the first of the two, so that a certified"
-                " net may run forever; `simulate` and `sweep` take either by equal chance, and a proof has to hold for both"
+                f"{lead} hidden by `{names.move(u)}` ({place(u)}): a run takes the first of the two, so a certified"
+                " net may run forever. `simulate` and `sweep` take either by equal chance, and a proof has to hold"
+                " for both"
             )
     return out
 
 
 def slow_pairs(bundle: Bundle) -> list[str]:
-    """For each leaf one pair of moves, if there is one, of which the first undoes what the second, of a later layer, does."""
+    """For each leaf one pair of moves, if there is one, of which the first undoes what the second, of a later layer,
+    does."""
     out = []
     for i, (leaf, part) in enumerate(zip(bundle.net.leaves, bundle.proof)):
         undone: dict[tuple[tuple[int, int], ...], int] = {}
@@ -58,7 +60,8 @@ def slow_pairs(bundle: Bundle) -> list[str]:
             if found:
                 lead = f"leaf {i}: " if len(bundle.net.leaves) > 1 else ""
                 out.append(
-                    f"{lead}it may be slow: `{names.move(found[0])}` of an earlier layer undoes what `{names.move(found[1])}` does; `sweep` measures how slow"
+                    f"{lead}it may be slow: `{names.move(found[0])}` of an earlier layer undoes what"
+                    f" `{names.move(found[1])}` does; `sweep` measures how slow"
                 )
                 break
             for t in moves:
@@ -73,12 +76,12 @@ def cautions(net: Net, leaf_places: Sequence[Sequence[Place]] | None = None, lab
         out.append(
             "`helpers` in a net of format 1 is ignored: write `format 2`"
             if leaf_places
-            else '`helpers` in a net of format 1 is ignored: it wants `"format":2`'
+            else '`helpers` in a net of format 1 is ignored: it needs `"format":2`'
         )
     unnamed = [i for i in range(len(net.leaves)) if i not in net.combine]
     if unnamed:
         who = ", ".join(labels[i] if labels else f"leaf {i}" for i in unnamed)
-        out.append(f"`combine` doesn't name {who}, so that it says nothing of the output")
+        out.append(f"`combine` doesn't name {who}, so it doesn't count for the output")
     if any(leaf.laws for leaf in net.leaves):
         out.append(LAWS_TOLD)
     for i, leaf in enumerate(net.leaves):

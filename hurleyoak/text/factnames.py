@@ -92,7 +92,10 @@ class LeafReader:
         if number is None:
             raise Unknown(
                 place,
-                f"`{text.states[0]} + {text.states[1]} -> {text.states[2]} + {text.states[3]}` is no move of this leaf",
+                (
+                    f"`{text.states[0]} + {text.states[1]} -> {text.states[2]} + {text.states[3]}` is no move of this"
+                    " leaf"
+                ),
             )
         return number
 
@@ -142,7 +145,7 @@ class LeafReader:
         if line.takes("/"):
             digits = line.matches(NUMBER)
             if digits is None:
-                raise place.fault("expected a number behind `/`")
+                raise place.fault("expected a number after `/`")
             name += f"/{whole_of(digits)}" if whole_of(digits) > 1 else ""
         return name
 

@@ -8,7 +8,7 @@
 
 `family` names a parameter and its values; a file may have several. `for` repeats the lines that stand deeper, and
 brackets repeat a part of a line. `{..}` is a number: a sum over parameters and names of loops, with + - * // % **,
-parentheses, min, max and abs; in braces with any other name nothing is changed, so that sets of states stay sets.
+parentheses, min, max and abs. In braces with any other name nothing is changed, so that sets of states stay sets.
 """
 from __future__ import annotations
 
@@ -118,10 +118,12 @@ def _holds(text: str, values: Values) -> bool:
     parts = node.values if isinstance(node, ast.BoolOp) and isinstance(node.op, ast.And) else [node]
     for part in parts:
         if not isinstance(part, ast.Compare):
-            raise _NoSum("behind `if` stands a comparison, as in `i + j < m`")
+            raise _NoSum("after `if` comes a comparison, as in `i + j < m`")
         numbers = [_number(side, values) for side in (part.left, *part.comparators)]
         if not all(
-            _COMPARED[type(sign)](a, b) for sign, a, b in zip(part.ops, numbers, numbers[1:]) if type(sign) in _COMPARED
+            _COMPARED[type(sign)](a, b)
+            for sign, a, b in zip(part.ops, numbers, numbers[1:])
+            if type(sign) in _COMPARED
         ):
             return False
     return True

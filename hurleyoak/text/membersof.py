@@ -2,7 +2,8 @@
 from __future__ import annotations
 
 from .families import Values, member, member_name, members
-from .files import Loaded, load_pop
+from .files import load_pop
+from .loaded import Loaded
 from .reading_on import faults_in
 from .scanner import TextFault
 

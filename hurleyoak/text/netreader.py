@@ -55,7 +55,9 @@ def state_order(text: LeafText) -> dict[str, int]:
 def _helpers_stand_elsewhere(text: LeafText) -> None:
     """Fails at a helper like `2L` or `3`, which was meant as a number, and is a state that nothing else names."""
     helpers = {id(named) for named in text.helpers}
-    others = {named.name for named in text.mentions if id(named) not in helpers} | {named.name for named in text.states}
+    others = {named.name for named in text.mentions if id(named) not in helpers} | {
+        named.name for named in text.states
+    }
     for named in text.helpers:
         found = _COUNTED.fullmatch(named.name)
         if found and named.name not in others:
@@ -66,12 +68,13 @@ def _helpers_stand_elsewhere(text: LeafText) -> None:
 
 
 def _wild_moves(move: MoveText, numbers: dict[str, int], taken: set[tuple[int, int]]) -> list[Move]:
-    """The moves that a wildcard stands for: one for each state that fits, changes something and has no move with its partner yet."""
+    """The moves that a wildcard stands for: one for each state that fits, changes something and has no move with its
+    partner yet."""
     if move.states[0] == move.states[1] == ANY:
         raise move.places[1].fault("expected a state: only one of the two that meet may be `*`")
     if ANY not in move.states[:2]:
         raise move.places[2 + move.states[2:].index(ANY)].fault(
-            "`*` on the right stands for the one on the left, and there is none"
+            "`*` on the right is the state of the `*` on the left, and there is none"
         )
     out = []
     for q in numbers.values():
@@ -155,7 +158,8 @@ def _variables(text: PopText) -> list[str]:
     for one in named:
         if not is_variable_name(one.name):
             raise one.place.fault(
-                f"`{one.name}` is no name of a variable: 1 to 32 letters, digits and `_`, no digit first, and not `mod`"
+                f"`{one.name}` is no name of a variable: 1 to 32 letters, digits and `_`, no digit first, and not"
+                " `mod`"
             )
         if one.name in out:
             raise one.place.fault(f"variable `{one.name}` was there before")
@@ -223,7 +227,7 @@ def make_net(text: PopText) -> tuple[Net, list[MadeLeaf]]:
         combine = _combination(text.combine[0], [leaf.name for leaf in text.leaves])
     elif len(made) > 1:
         raise text.leaves[-1].place.fault(
-            "several leaves want a line `combine`, as in `combine "
+            "several leaves need a line `combine`, as in `combine "
             + " && ".join(leaf.name for leaf in text.leaves)
             + "`"
         )
@@ -264,7 +268,8 @@ _LIMITS = {
 
 
 def predicate_at(text: str, place: Place, variables: tuple[str, ...]) -> tuple[str, Predicate]:
-    """A predicate that stands at a place, in the grammar's form, and its tree; or a TextFault at the part that is wrong."""
+    """A predicate that stands at a place, in the grammar's form, and its tree; or a TextFault at the part that is
+    wrong."""
     try:
         return read_form(text, variables)
     except PredicateFault as fault:

@@ -1,4 +1,5 @@
-"""The sections of a `.pop` file: reads each line for its form, and leaves what names mean to `netreader` and `proofreader`."""
+"""The sections of a `.pop` file: reads each line for its form, and leaves what names mean to `netreader` and
+`proofreader`."""
 from __future__ import annotations
 
 import re
@@ -136,7 +137,8 @@ class _Reader:
         else:
             if self.single:
                 raise place.fault(
-                    "a file with `leaf` lines has every line of a leaf behind one: put the first `leaf NAME` above its lines"
+                    "in a file with `leaf` lines every line of a leaf comes after one: put the first `leaf NAME` above"
+                    " its lines"
                 )
             name = read_state(line, "the leaf's name")
             if any(leaf.name == name.name for leaf in self.file.leaves):
@@ -150,13 +152,17 @@ class _Reader:
     def once(word: str, before: "tuple[object, Place] | None", place: Place) -> None:
         """Fails where a line with this word was there before."""
         if before is not None:
-            raise place.fault(f"a line `{word}` was there before, on line {before[1].line}: which of the two is meant?")
+            raise place.fault(
+                f"a line `{word}` was there before, on line {before[1].line}: which of the two is meant?"
+            )
 
     def leaf_line(self, word: str, line: Line, leaf: LeafText) -> None:
         place = line.start()
         if word == "":
             if LOOP.match(line.whole, line.indent):
-                raise place.fault("a `for` belongs to a family: a line such as `family m in 3` above it makes this file one")
+                raise place.fault(
+                    "a `for` belongs to a family: a line such as `family m in 3` above it makes this file one"
+                )
             move = read_move(line)
             for name, at in zip(move.states, move.places):
                 leaf.mention(Named(name, at))

@@ -45,7 +45,8 @@ class MoveText:
 
 @dataclass
 class LayerText:
-    """A layer: weights by state, or `?` for weights to be found, or JSON; and its moves, `*` for all that no other layer lists."""
+    """A layer: weights by state, or `?` for weights to be found, or JSON; and its moves, `*` for all that no other
+    layer lists."""
 
     place: Place
     weights: list[Named] = field(default_factory=list)

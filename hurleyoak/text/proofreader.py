@@ -25,7 +25,8 @@ class LayerDraft:
 
 @dataclass
 class ProofDraft:
-    """A leaf's proof in which parts may be open: `layers` None where all of them are, a tree None where all of it is."""
+    """A leaf's proof in which parts may be open: `layers` None where all of them are, a tree None where all of it
+    is."""
 
     layers: list[LayerDraft] | None = None
     true: list[DraftNode] | None = None

@@ -1,4 +1,5 @@
-"""Reaction networks as text (`.crn`), read as `.pop` files and written from nets: `A + B -> 2U : 0.5`, `A + B <-> C + D`.
+"""Reaction networks as text (`.crn`), read as `.pop` files and written from nets: `A + B -> 2U : 0.5`, `A + B <-> C +
+D`.
 
 A reaction has two reactants and two products, since agents neither come nor go and change when two of them meet. Its
 rate, 1 where none is given, becomes a chance: the greatest sum of rates for two reactants is 1. ppsim's signs are read
@@ -74,7 +75,8 @@ def _reactions(number: int, line: str) -> list[Reaction]:
 
 
 def pop_text(text: str) -> str:
-    """The `.pop` file of a network, line for line; the ways back stand at its end. TextFault where it has no meaning."""
+    """The `.pop` file of a network, line for line; the ways back stand at its end. TextFault where it has no
+    meaning."""
     lines = [line.partition("#")[0].rstrip() for line in text.split("\n")]
     words = [(found[1] if (found := _WORD.match(line)) else "") for line in lines]
     kept = [word in FILE_WORDS + LEAF_WORDS and not _ARROW.search(line) for word, line in zip(words, lines)]
@@ -97,7 +99,8 @@ def pop_text(text: str) -> str:
 
 
 def network_text(net: Net) -> str:
-    """The network of a net with one leaf, with its inputs and its output; rates are chances. InputFault where there is none."""
+    """The network of a net with one leaf, with its inputs and its output; rates are chances. InputFault where there is
+    none."""
     if len(net.leaves) > 1:
         raise InputFault("a reaction network is one leaf, and the net has several")
     leaf = net.leaves[0]

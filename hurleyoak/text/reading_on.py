@@ -1,6 +1,7 @@
 """All that is wrong with a `.pop` text: after a fault the reading goes on without the line that has it.
 
-What follows from a line that was left out is not told: so a fault of the whole leaf, or of a line on which others rest, ends the reading.
+What follows from a line that was left out is not told: so a fault of the whole leaf, or of a line on which others
+rest, ends the reading.
 """
 from __future__ import annotations
 
@@ -64,7 +65,8 @@ class _Text:
         self.rows[line.number - 1] = text
 
     def leave_out(self, fault: TextFault) -> None:
-        """Takes the line of a fault away; of a proof's head with all that stands below it. Outputs stay for all states."""
+        """Takes the line of a fault away; of a proof's head with all that stands below it. Outputs stay for all
+        states."""
         at = self.owner[fault.line]
         word = _word(self.lines[at])
         self._blank(at, f"{word} *" if word in OUTPUT_WORDS else "")

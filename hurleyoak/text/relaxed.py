@@ -4,7 +4,8 @@ from __future__ import annotations
 import re
 from typing import Sequence
 
-from ..protocol.predicates import Predicate, PredicateFault, read_predicate
+from ..protocol.predicatereader import read_predicate
+from ..protocol.predicates import Predicate, PredicateFault
 from .relaxedreader import FormReader
 from .relaxedtokens import NotRead, tokens_of
 
@@ -24,8 +25,8 @@ def strict_names(text: str) -> list[str]:
 def in_form(text: str, names: Sequence[str] | None = None, declared: Sequence[str] = ()) -> tuple[str, list[str]]:
     """A predicate in the grammar's form, and its variables in order of mention.
 
-    A text that is in form is left as it is; one that isn't and cannot be brought into it is left too, for the program to
-    refuse. `names` are the variables where they are known.
+    A text that is in form is left as it is; one that isn't and cannot be brought into it is left too, for the program
+    to refuse. `names` are the variables where they are known.
     """
     own = list(names) if names is not None else strict_names(text)
     if len(text) > RELAXED_LIMIT:

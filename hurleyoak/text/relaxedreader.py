@@ -17,7 +17,8 @@ MODULUS_TOLD = f"a modulus is 2 to {MODULUS_LIMIT}"
 
 
 class FormReader:
-    """Reads a text; `names` are the variables where they are known, `declared` those that stand elsewhere, as with counts."""
+    """Reads a text; `names` are the variables where they are known, `declared` those that stand elsewhere, as with
+    counts."""
 
     def __init__(self, text: str, names: Sequence[str] | None = None, declared: Sequence[str] = ()) -> None:
         self.tokens = tokens_of(text)
@@ -139,9 +140,7 @@ class FormReader:
             relation = self.takes(*RELATIONS)
             second = self.sum(is_left=False)
             if found and self.is_modulus():
-                raise NotRead(
-                    self.peek().at, "a congruence stands alone, and is no link of a chain: join two comparisons by `&&`"
-                )
+                raise NotRead(self.peek().at, "a congruence is no link of a chain: join two comparisons by `&&`")
             last = self.modulus_behind(False) if relation in ("=", "!=") and modulus is None else None
             if modulus is not None or last is not None:
                 return self.congruence(first, relation, second, modulus, last, place), UNIT
@@ -155,13 +154,15 @@ class FormReader:
             raise self.refuse("one of `<`, `<=`, `>`, `>=`, `=`, `!=`")
         return (found[0], UNIT) if len(found) == 1 else (f"({' && '.join(found)})", UNIT)
 
-    def congruence(self, left: Sum, relation: str, right: Sum, inner: int | None, outer: int | None, place: int) -> str:
+    def congruence(
+        self, left: Sum, relation: str, right: Sum, inner: int | None, outer: int | None, place: int
+    ) -> str:
         """The text of a congruence, behind which `&&`, `||`, `)` or the end comes."""
         text = congruence_text(left, relation, right, inner, outer, place)
         if not (self.peek().kind == "end" or self.peek().kind == "sign" and self.peek().text in ("&&", "||", ")")):
             raise NotRead(
                 self.peek().at,
-                f"behind a congruence comes `&&`, `||`, `)` or the end, and here is `{self.peek().text}`",
+                f"after a congruence comes `&&`, `||`, `)` or the end, and here is `{self.peek().text}`",
             )
         return text
 
@@ -188,28 +189,34 @@ class FormReader:
         """The number behind `mod` or `%`."""
         token = self.peek()
         if token.kind != "number":
-            raise NotRead(token.at, f"{MODULUS_TOLD}, and stands behind `mod` or `%` as a number alone")
+            raise NotRead(token.at, f"{MODULUS_TOLD}, and comes after `mod` or `%` as a number alone")
         modulus = self.number("a number, the modulus")
         if not 2 <= modulus <= MODULUS_LIMIT:
             raise NotRead(token.at, MODULUS_TOLD)
         return modulus
 
     def sum(self, is_left: bool = True) -> Sum:
-        """A sum on the left or on the right of a sign; on the left a modulus takes one term, whichever way it is written."""
+        """A sum on the left or on the right of a sign; on the left a modulus takes one term, whichever way it is
+        written."""
         sign = -1 if self.takes("-") else 1
         out, terms = self.term().times(sign), 1
         while True:
             if self.peek().text == "%" and not is_left:
                 raise NotRead(
                     self.peek().at,
-                    "`%` stands on the left of the sign, as in `x % 3 = 1`; that two sums leave the same remainder is "
-                    "written `x = y mod 3`",
+                    (
+                        "`%` belongs on the left of the sign, as in `x % 3 = 1`; that two sums leave the same"
+                        " remainder is written `x = y mod 3`"
+                    ),
                 )
             if is_left and terms > 1 and self.is_modulus():
                 raise NotRead(
                     self.peek().at,
-                    f"`{'%' if self.peek().text == '%' else 'mod'}` on the left of the sign takes one term: put the sum in "
-                    "parentheses, as in `(x - y) % 3 = 1`, or the modulus behind, as in `x - y = 1 mod 3`",
+                    (
+                        f"`{'%' if self.peek().text == '%' else 'mod'}` on the left of the sign takes one term. Put"
+                        " the sum in parentheses, as in `(x - y) % 3 = 1`, or the modulus at the end, as in `x - y ="
+                        " 1 mod 3`"
+                    ),
                 )
             which = self.takes("+", "-")
             if not which:
@@ -236,7 +243,8 @@ class FormReader:
             out = right.times(out.constant) if right.coefficients else out.times(right.constant)
 
     def product(self, name: Token) -> None:
-        """Fails at `1e5`, `10k`, `0x10`: a number and a name are a product without a sign only where the name is known."""
+        """Fails at `1e5`, `10k`, `0x10`: a number and a name are a product without a sign only where the name is
+        known."""
         before = self.tokens[self.next - 1]
         if before.kind != "number" or (name.text in self.free if self.names is None else name.text in self.names):
             return
@@ -244,8 +252,11 @@ class FormReader:
             raise NotRead(name.at, glued_modulus(name.text))
         raise NotRead(
             before.at,
-            f"`{before.text}{name.text}` is no number, which is digits alone; a product is written `{before.text}*{name.text}`, "
-            f"and without the sign where `{name.text}` stands elsewhere too, or is declared",
+            (
+                f"`{before.text}{name.text}` is no number, which is digits alone; a product is written"
+                f" `{before.text}*{name.text}`, and without the sign where `{name.text}` also occurs elsewhere, or is"
+                " declared"
+            ),
         )
 
     def factor(self) -> Sum:

@@ -5,7 +5,8 @@ import re
 from dataclasses import dataclass
 
 _TOKEN = re.compile(
-    r"[ \t]*(?:([A-Za-z_][A-Za-z0-9_]*)|([0-9]+)|(<=|>=|=<|=>|!=|<>|==|&&|\|\||[-+*<>=!()%&|≤≥≠≡∧∨¬])|(.))", re.DOTALL
+    r"[ \t]*(?:([A-Za-z_][A-Za-z0-9_]*)|([0-9]+)" r"|(<=|>=|=<|=>|!=|<>|==|&&|\|\||[-+*<>=!()%&|≤≥≠≡∧∨¬])|(.))",
+    re.DOTALL,
 )
 _SAME = {
     "==": "=",
@@ -61,4 +62,4 @@ def tokens_of(text: str) -> list[Token]:
 
 def glued_modulus(word: str) -> str:
     """What is wrong with `mod3`."""
-    return f"`{word}`: a blank stands between `mod` and the modulus, as in `mod {word.removeprefix('mod')}`"
+    return f"`{word}`: put a blank between `mod` and the modulus, as in `mod {word.removeprefix('mod')}`"

@@ -2,7 +2,8 @@
 from __future__ import annotations
 
 from ..faults import InputFault
-from .files import load_pop, strict_bundle
+from .files import load_pop
+from .loaded import strict_bundle
 from .popsections import FILE_WORDS, LEAF_WORDS
 from ..proof.bundles import Bundle
 from .scanner import WORD, Line, TextFault, lines_of, without_comment
@@ -18,7 +19,8 @@ def _word(line: Line) -> str:
 
 
 def _parts(text: str) -> tuple[list[list[int]], list[int], list[bool]]:
-    """The numbers of the lines of each leaf's proof, of the last line of each leaf, and whether it has `computes`; lines count from 0."""
+    """The numbers of the lines of each leaf's proof, of the last line of each leaf, and whether it has `computes`;
+    lines count from 0."""
     proofs: list[list[int]] = [[]]
     lasts: list[int] = [-1]
     computes: list[bool] = [False]

@@ -49,7 +49,8 @@ class Place:
 
 
 class Line:
-    """One line without its comment, and how far it is read. A line that continues it is read on with its own places."""
+    """One line without its comment, and how far it is read. A line that continues it is read on with its own
+    places."""
 
     def __init__(self, number: int, whole: str) -> None:
         self.number, self.whole = number, whole

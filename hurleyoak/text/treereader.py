@@ -27,7 +27,8 @@ SUGGESTIONS = 3
 
 @dataclass
 class Note:
-    """Something in a proof that stands for nothing: it was left out. `tree` and `node` say where, `tree` None for layers."""
+    """Something in a proof that stands for nothing: it was left out. `tree` and `node` say where, `tree` None for
+    layers."""
 
     place: Place
     told: str
@@ -85,7 +86,8 @@ class TreeReader:
                 raise text.place.fault("the tree has no node: write `?` below it for one to be found")
             label = f"the case `{case.label}` of" if case.label else "what follows"
             raise text.place.fault(
-                f"{label} `{case.owner}` on line {case.owner_line} has no node: write `lin 0` or `?` while it isn't there yet"
+                f"{label} `{case.owner}` on line {case.owner_line} has no node: write `lin 0` or `?` while it isn't"
+                " there yet"
             )
         return self.nodes
 
@@ -124,9 +126,10 @@ class TreeReader:
             raise place.fault(f"expected {wanted}")
         if line.indent <= case.deeper_than or (case.group and case.group[0] != line.indent):
             raise place.fault(
-                f"expected the case `{case.label}` of `{case.owner}` on line {case.owner_line}, deeper than it and as deep as its other cases"
+                f"expected the case `{case.label}` of `{case.owner}` on line {case.owner_line}, deeper than it and as"
+                " deep as its other cases"
                 if case.label
-                else f"expected what follows `{case.owner}` on line {case.owner_line} to stand as deep as it"
+                else f"expected the line after `{case.owner}` on line {case.owner_line} to be as deep as it"
             )
         case.group.append(line.indent)
         self.waiting.pop()
@@ -189,7 +192,7 @@ class TreeReader:
         if word == "split":
             terms, constant = self.reader.row(line)
             if any(a[0] == b[0] for a, b in zip(terms, terms[1:])):
-                raise place.fault("a variable stands twice in the sum")
+                raise place.fault("a variable occurs twice in the sum")
             return Split(tuple(terms), constant)
         if word == "present":
             return Present(self.reader.state(line))

@@ -8,7 +8,8 @@ from ..proof.branches import Visit, visits
 from ..proof.names import Names, named, sum_of
 from ..protocol.laws import PLAIN, chance_text
 from ..protocol.nets import Item, Leaf, Net, compact
-from ..protocol.predicates import Predicate, read_predicate
+from ..protocol.predicatereader import read_predicate
+from ..protocol.predicates import Predicate
 from ..proof.bundles import Bundle, Layer, LeafProof, Linear, Residue, node_value
 from ..protocol.naming import state_text
 

@@ -107,7 +107,8 @@ class Page:
     def type(self, text: str) -> None:
         """Types into the editor."""
         self.js(
-            "const code = document.querySelector('.CodeMirror').CodeMirror; code.focus(); code.setCursor(code.lineCount(), 0)"
+            "const code = document.querySelector('.CodeMirror').CodeMirror; code.focus();"
+            " code.setCursor(code.lineCount(), 0)"
         )
         Actions(self.browser).send_keys(text).perform()
 

@@ -1,4 +1,5 @@
-"""Firefox by its own protocol, Marionette, as Debian has no driver for it: each message is its length, `:` and JSON."""
+"""Firefox by its own protocol, Marionette, as Debian has no driver for it: each message is its length, `:` and
+JSON."""
 from __future__ import annotations
 
 import json
@@ -44,7 +45,14 @@ class Firefox:
         self.profile = tempfile.mkdtemp(prefix="firefox")
         lines = [f"user_pref({json.dumps(name)}, {json.dumps(value)});" for name, value in PREFERENCES.items()]
         (Path(self.profile) / "user.js").write_text("\n".join(lines))
-        words = ["--headless", "--marionette", "--remote-allow-system-access", "--no-remote", "--profile", self.profile]
+        words = [
+            "--headless",
+            "--marionette",
+            "--remote-allow-system-access",
+            "--no-remote",
+            "--profile",
+            self.profile,
+        ]
         size = ["--width", str(width), "--height", str(height)]
         self.process = subprocess.Popen(
             [FIREFOX, *words, *size], stdout=subprocess.DEVNULL, stderr=subprocess.DEVNULL, start_new_session=True

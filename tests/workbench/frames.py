@@ -55,7 +55,8 @@ def _play(page: Page, slider: int, seconds: float) -> tuple[list[float], dict[st
 
 
 def measured(page: Page, slider: int, seconds: float) -> tuple[list[float], dict[str, float]]:
-    """Milliseconds between frames while the crowd meets, with motion; and those of a processor for each frame, by what took them."""
+    """Milliseconds between frames while the crowd meets, with motion; and those of a processor for each frame, by what
+    took them."""
 
     def shade(features: list[dict[str, Any]]) -> None:
         page.browser.execute_cdp_cmd("Emulation.setEmulatedMedia", {"features": features})

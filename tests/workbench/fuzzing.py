@@ -1,7 +1,7 @@
 """Changed files of the tests, odd words and closed streams for all commands: any answer will do, but a traceback.
 
-`python3 -m tests.workbench.fuzzing SEED COUNT FOLDER` tries so many cases in this process, whose streams go nowhere, and writes what
-went wrong to FOLDER/found, a line of JSON for each.
+`python3 -m tests.workbench.fuzzing SEED COUNT FOLDER` tries so many cases in this process, whose streams go nowhere,
+and writes what went wrong to FOLDER/found, a line of JSON for each.
 """
 from __future__ import annotations
 
@@ -214,7 +214,9 @@ def words_of(rng: random.Random, folder: Path, texts: list[str]) -> list[str]:
     words = [command, *(files if command in ("and", "or") else files[:1]), *OPTIONS.get(command, ())]
     words += [rng.choice(WORDS) for _ in range(rng.randrange(3))]
     if command in ("eval", "compile") and rng.random() < 0.5:
-        words[1] = changed(rng.choice(["x >= y", "2x + 3*y < 5 && x % 3 = 1", "not (x = y (mod 4)) or 1 < x < 5"]), rng)
+        words[1] = changed(
+            rng.choice(["x >= y", "2x + 3*y < 5 && x % 3 = 1", "not (x = y (mod 4)) or 1 < x < 5"]), rng
+        )
     if command in ("simulate", "sweep", "run", "settle"):
         words.append("x=3")
     if rng.random() < 0.1:

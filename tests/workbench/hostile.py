@@ -23,4 +23,7 @@ def hostile_text() -> str:
     """A protocol whose states have the names."""
     names = ['"' + name.replace("\\", "\\\\").replace('"', '\\"') + '"' for name in HOSTILE]
     moves = "\n".join(f"{a} + {b} -> {b} + {b}" for a, b in zip(names, names[1:]))
-    return f'# <script>hurt=1</script>\nleaf "<b>leaf"\ninputs x: {names[0]}  y: {names[1]}\n{moves}\nyes {names[-1]}\ncomputes x >= 1\n'
+    return (
+        f'# <script>hurt=1</script>\nleaf "<b>leaf"\ninputs x: {names[0]}  y: {names[1]}\n{moves}\nyes'
+        f" {names[-1]}\ncomputes x >= 1\n"
+    )

@@ -1,7 +1,9 @@
-"""Mistakes that people make, and the sentence that each gets: the words, standard input, the status, the program's line, the sentence.
+"""Mistakes that people make, and the sentence that each gets: the words, standard input, the status, the program's
+line, the sentence.
 
-`@BUNDLE`, `@NET` and `@JOURNAL` stand for the line of majority's bundle, that of its net, and a journal of it; `@PRETTY` is the
-bundle over many lines. In the words, a name that ends in .json, .pop or .txt is a file with the text that FILES has for it.
+`@BUNDLE`, `@NET` and `@JOURNAL` stand for the line of majority's bundle, that of its net, and a journal of it;
+`@PRETTY` is the bundle over many lines. In the words, a name that ends in .json, .pop or .txt is a file with the text
+that FILES has for it.
 """
 from __future__ import annotations
 
@@ -24,7 +26,9 @@ FILES = {
     "pretty.json": "@PRETTY\n",
     "comma.json": '{"net":{\n  "format":1,\n  "vars":["x","y"],\n},\n"pred":"x < 1"}\n',
     "quotes.json": "{'net': 1}\n",
-    "python.json": '{"net":{"format":1,"vars":["x"],"leaves":[{"states":["a"],"moves":[],"input":[0],"output":[True]}]}}\n',
+    "python.json": (
+        '{"net":{"format":1,"vars":["x"],"leaves":[{"states":["a"],"moves":[],"input":[0],"output":[True]}]}}\n'
+    ),
     "cut.json": '{"net":{"format":1,\n',
     "comment.json": '{"net": // the net\n1}\n',
     "state.json": '{"format":1,"vars":["x","y"],\n"leaves":[{"states":["A","B"],\n"moves":[[0,1,2,0]],\n"input":[0,1],"output":[true,false]}],\n"combine":[0]}\n',
@@ -81,7 +85,7 @@ MISTAKES: tuple[Mistake, ...] = (
         "`--flocks` is an option of `compile`, and `check` has others: --twice",
     ),
     Mistake(("check", ""), None, 2, "", "the file's name is empty"),
-    Mistake(("check", "."), None, 2, "", ". is a folder; a file is wanted"),
+    Mistake(("check", "."), None, 2, "", ". is a folder; give a file"),
     Mistake(
         ("run", "majority.json", "x=3", "--sed", "3"),
         None,
@@ -101,7 +105,7 @@ MISTAKES: tuple[Mistake, ...] = (
         "",
         1,
         "fault: usage 2 missing",
-        "a number is missing behind `--seed`: a seed is 0 to 9,223,372,036,854,775,807",
+        "a number is missing after `--seed`: a seed is 0 to 9,223,372,036,854,775,807",
     ),
     Mistake(
         ("run", "majority.json", "x=3", "--turns", "5000000"),
@@ -122,23 +126,27 @@ MISTAKES: tuple[Mistake, ...] = (
         "",
         1,
         "fault: usage 3 twice",
-        "`--turns` stands twice; each option is given at most once",
+        "`--turns` is given twice; give each option at most once",
     ),
     Mistake(
         ("run", "--turns", "-5"),
         "",
         1,
         "fault: usage 2 value",
-        "`-5` isn't digits alone, as it has to be for `--turns`: turns are 0 to 1,000,000 each, and at most "
-        "2,000,000 in all",
+        (
+            "`-5` isn't digits alone, as it has to be for `--turns`: turns are 0 to 1,000,000 each, and at most "
+            "2,000,000 in all"
+        ),
     ),
     Mistake(
         ("run", "majority.json", "x=3", "--turns", "5,000,000"),
         None,
         1,
         "fault: usage 2 value",
-        "`5,000,000` isn't digits alone, as it has to be for `--turns`: turns are 0 to 1,000,000 each, and at "
-        "most 2,000,000 in all",
+        (
+            "`5,000,000` isn't digits alone, as it has to be for `--turns`: turns are 0 to 1,000,000 each, and at "
+            "most 2,000,000 in all"
+        ),
     ),
     Mistake(
         ("watch", "--workers", "64"),
@@ -152,8 +160,10 @@ MISTAKES: tuple[Mistake, ...] = (
         "",
         1,
         "fault: usage 5 product",
-        "4 workers with 1,000,000 turns each are 4,000,000 turns; turns are 0 to 1,000,000 each, and at most "
-        "2,000,000 in all: with 4 workers give at most `--turns 500000`",
+        (
+            "4 workers with 1,000,000 turns each are 4,000,000 turns; turns are 0 to 1,000,000 each, and at most "
+            "2,000,000 in all: with 4 workers give at most `--turns 500000`"
+        ),
     ),
     Mistake(
         ("run", "--shards", "0"),
@@ -167,10 +177,12 @@ MISTAKES: tuple[Mistake, ...] = (
         None,
         1,
         "fault: usage 1 unknown",
-        "a file, or `-` for standard input, is missing: pop run FILE x=30 y=10 [--workers N] [--shards N] "
-        "[--turns N] [--seed N]",
+        (
+            "a file, or `-` for standard input, is missing: pop run FILE x=30 y=10 [--workers N] [--shards N] "
+            "[--turns N] [--seed N]"
+        ),
     ),
-    Mistake(("demo",), "", 1, "fault: usage 1 missing", "a number is missing behind `demo`: demo cases are 0 to 9,999"),
+    Mistake(("demo",), "", 1, "fault: usage 1 missing", "a number is missing after `demo`: demo cases are 0 to 9,999"),
     Mistake(
         ("demo", "10000"),
         "",
@@ -190,15 +202,20 @@ MISTAKES: tuple[Mistake, ...] = (
         None,
         1,
         "fault: usage 1 unknown",
-        "`-` has no place here: put the whole predicate in quotes, as in pop compile 'x - y < 3' [--succinct | --plain | "
-        "--flocks] [--helpers none] [-o FILE]",
+        (
+            "`-` has no place here: put the whole predicate in quotes, as in pop compile 'x - y < 3' [--succinct |"
+            " --plain | --flocks] [--helpers none] [-o FILE]"
+        ),
     ),
     Mistake(
         ("compile", "x < 3", "-o"),
         None,
         1,
         "fault: usage 1 unknown",
-        "`-o` is followed by the file to write: pop compile 'x - y < 3' [--succinct | --plain | --flocks] [--helpers none] [-o FILE]",
+        (
+            "`-o` is followed by the file to write: pop compile 'x - y < 3' [--succinct | --plain | --flocks]"
+            " [--helpers none] [-o FILE]"
+        ),
     ),
     Mistake(
         ("replay", "--watch"),
@@ -213,8 +230,10 @@ MISTAKES: tuple[Mistake, ...] = (
         "@PRETTY\n",
         2,
         "fault: line 2 extra",
-        "the bundle is over 248 lines; it is one line: give the file as an argument, as in `pop check FILE`, or "
-        "use `jq -c .`",
+        (
+            "the bundle is over 248 lines; it is one line: give the file as an argument, as in `pop check FILE`, or "
+            "use `jq -c .`"
+        ),
     ),
     Mistake(("check",), "", 2, "fault: line 1 missing", "the input is empty; `check` takes a bundle: pop check FILE"),
     Mistake(
@@ -222,31 +241,37 @@ MISTAKES: tuple[Mistake, ...] = (
         "@BUNDLE\ncrowd x=3 y=1\n",
         2,
         "fault: line 2 extra",
-        "line 2 is a crowd line; `check` takes a bundle alone, and its answer holds for every crowd: `run` and "
-        "`settle` take a crowd",
+        (
+            "line 2 is a crowd line; `check` takes a bundle alone, and its answer holds for every crowd: `run` and "
+            "`settle` take a crowd"
+        ),
     ),
     Mistake(
         ("check",),
         "@BUNDLE\n\n",
         2,
         "fault: line 2 extra",
-        "line 2 is empty; `check` takes a bundle, and nothing behind",
+        "line 2 is empty; `check` takes a bundle, and nothing after",
     ),
     Mistake(
         ("run",),
         "@BUNDLEcrowd x=3 y=1\n",
         2,
         "fault: line 2 missing",
-        "line 1, column 646: this is no JSON: the crowd stands on the line of the bundle; a line feed belongs "
-        "before `crowd`",
+        (
+            "line 1, column 646: this is no JSON: the crowd is on the line of the bundle; "
+            "put a line feed before `crowd`"
+        ),
     ),
     Mistake(
         ("run",),
         "@BUNDLE\n",
         2,
         "fault: line 2 missing",
-        "the crowd is missing: give the counts behind the file, as in `pop run FILE x=30 y=10`, or a line `crowd "
-        "x=30 y=10` behind the bundle",
+        (
+            "the crowd is missing: give the counts after the file, as in `pop run FILE x=30 y=10`, or a line `crowd "
+            "x=30 y=10` after the bundle"
+        ),
     ),
     Mistake(
         ("run",),
@@ -260,8 +285,10 @@ MISTAKES: tuple[Mistake, ...] = (
         "@BUNDLE\ncrown x=3\n",
         2,
         "fault: count 0",
-        "a crowd line is `crowd` and the counts, as in `crowd x=30 y=10`; this one begins with `crown`; did you "
-        "mean `crowd`?",
+        (
+            "a crowd line is `crowd` and the counts, as in `crowd x=30 y=10`; this one begins with `crown`; did you "
+            "mean `crowd`?"
+        ),
     ),
     Mistake(
         ("run",),
@@ -306,7 +333,11 @@ MISTAKES: tuple[Mistake, ...] = (
         "line 3: a meeting line has two numbers of agents with one space between them, as `0 2`",
     ),
     Mistake(
-        ("play",), "@NET\ncrowd x=2 y=1\n0 3\n", 2, "fault: line 3 agents", "line 3, `0 3`: there are the agents 0 to 2"
+        ("play",),
+        "@NET\ncrowd x=2 y=1\n0 3\n",
+        2,
+        "fault: line 3 agents",
+        "line 3, `0 3`: there are the agents 0 to 2",
     ),
     Mistake(
         ("play",),
@@ -315,22 +346,26 @@ MISTAKES: tuple[Mistake, ...] = (
         "fault: format /format kind",
         "this is a bundle; `play` takes the net alone: `pop play FILE` with the bundle's file plays its net",
     ),
-    Mistake(("compile",), "vars x x\nx < 1\n", 2, "fault: line 1 form", "line 1: `x` stands twice"),
+    Mistake(("compile",), "vars x x\nx < 1\n", 2, "fault: line 1 form", "line 1: `x` is named twice"),
     Mistake(
         ("compile",),
         "x < 1\n",
         2,
         "fault: line 2 missing",
-        "line 1 begins with `x`: a vars line is `vars` and 1 to 16 names, with one space before each, as in "
-        "`vars x y`",
+        (
+            "line 1 begins with `x`: a vars line is `vars` and 1 to 16 names, with one space before each, as in `vars"
+            " x y`"
+        ),
     ),
     Mistake(
         ("compile",),
         "vars 2x\nx < 1\n",
         2,
         "fault: line 1 form",
-        "line 1: `2x` is no name: 1 to 32 letters, digits and `_`, no digit first, and not `mod`; a vars line is "
-        "`vars` and 1 to 16 names, with one space before each, as in `vars x y`",
+        (
+            "line 1: `2x` is no name: 1 to 32 letters, digits and `_`, no digit first, and not `mod`; a vars line is "
+            "`vars` and 1 to 16 names, with one space before each, as in `vars x y`"
+        ),
     ),
     Mistake(("compile",), "vars x\n", 2, "fault: line 2 missing", "line 2 is missing: it has a predicate"),
     # files
@@ -354,14 +389,14 @@ MISTAKES: tuple[Mistake, ...] = (
         None,
         2,
         "fault: not json",
-        "comma.json:4:1: this is no JSON: a comma stands behind the last item",
+        "comma.json:4:1: this is no JSON: there is a comma after the last item",
     ),
     Mistake(
         ("check", "quotes.json"),
         None,
         2,
         "fault: not json",
-        "quotes.json:1:2: this is no JSON: texts stand in double quotes",
+        "quotes.json:1:2: this is no JSON: put texts in double quotes",
     ),
     Mistake(
         ("check", "python.json"),
@@ -372,7 +407,11 @@ MISTAKES: tuple[Mistake, ...] = (
     ),
     Mistake(("check", "cut.json"), None, 2, "fault: not json", "cut.json:2:1: this is no JSON: it ends too early"),
     Mistake(
-        ("check", "comment.json"), None, 2, "fault: not json", "comment.json:1:9: this is no JSON: JSON has no comments"
+        ("check", "comment.json"),
+        None,
+        2,
+        "fault: not json",
+        "comment.json:1:9: this is no JSON: JSON has no comments",
     ),
     Mistake(
         ("play", "state.json", "x=1", "y=1"),
@@ -389,7 +428,11 @@ MISTAKES: tuple[Mistake, ...] = (
         "/net/vars is missing: `vars` is a list of 1 to 16 names of variables",
     ),
     Mistake(
-        ("check", "list.json"), None, 2, "fault: format  kind", "a net and a bundle are objects, `{..}`; this is a list"
+        ("check", "list.json"),
+        None,
+        2,
+        "fault: format  kind",
+        "a net and a bundle are objects, `{..}`; this is a list",
     ),
     Mistake(
         ("check", "relation.json"), None, 2, "fault: format /pred pred syntax 5", "/pred: expected a number, found `x`"
@@ -399,8 +442,10 @@ MISTAKES: tuple[Mistake, ...] = (
         None,
         2,
         "fault: line 2 extra",
-        "line 2 is a crowd line; `check` takes a bundle alone, and its answer holds for every crowd: `run` and "
-        "`settle` take a crowd",
+        (
+            "line 2 is a crowd line; `check` takes a bundle alone, and its answer holds for every crowd: `run` and "
+            "`settle` take a crowd"
+        ),
     ),
     Mistake(
         ("check", "trap.json"),
@@ -422,8 +467,10 @@ MISTAKES: tuple[Mistake, ...] = (
         None,
         2,
         "fault: line 2 missing",
-        "the crowd is missing: give the counts behind the file, as in `pop run majority.json x=30 y=10`, or a "
-        "line `crowd x=30 y=10` behind the bundle",
+        (
+            "the crowd is missing: give the counts after the file, as in `pop run majority.json x=30 y=10`, or a "
+            "line `crowd x=30 y=10` after the bundle"
+        ),
     ),
     Mistake(("run", "majority.json", "z=3"), None, 2, "fault: count 1", "`z` is no variable of this net; it has x, y"),
     Mistake(("run", "majority.json", "X=3"), None, 2, "fault: count 1", "`X` is no variable of this net; it has x, y"),
@@ -443,8 +490,10 @@ MISTAKES: tuple[Mistake, ...] = (
         None,
         2,
         "fault: size 99999999999",
-        "the crowd has 99,999,999,999 agents and `run` takes 2 to 65,536; what `check` certifies holds for "
-        "crowds of every size",
+        (
+            "the crowd has 99,999,999,999 agents and `run` takes 2 to 65,536; what `check` certifies holds for "
+            "every size"
+        ),
     ),
     Mistake(
         ("run", "majority.json", "x=99999999999999999999"),
@@ -458,31 +507,34 @@ MISTAKES: tuple[Mistake, ...] = (
         None,
         2,
         "fault: size 1",
-        "the crowd has 1 agent and `run` takes 2 to 65,536; nobody meets in a smaller one",
+        "the crowd has 1 agent and `run` takes 2 to 65,536; in a smaller one no agents meet",
     ),
     Mistake(
         ("settle", "majority.json", "x=40000", "y=40000"),
         None,
         2,
         "fault: size 80000",
-        "the crowd has 80,000 agents and `settle` takes 2 to 65,536; what `check` certifies holds for crowds of "
-        "every size",
+        ("the crowd has 80,000 agents and `settle` takes 2 to 65,536; what `check` certifies holds for every size"),
     ),
     Mistake(
         ("run", "majority.json", "x=30", "y=10", "--turns", "3"),
         None,
         4,
         "undecided 0 30",
-        "the turns are used up before the crowd's end: agent 0 is in `A` and agent 30 in `B`, and their meeting "
-        "would change that",
+        (
+            "the turns are used up before the crowd's end: agent 0 is in `A` and agent 30 in `B`, and their meeting "
+            "would change that"
+        ),
     ),
     Mistake(
         ("run", "majority.json", "x=30", "y=10", "--turns", "0"),
         None,
         4,
         "undecided 0 30",
-        "the turns are used up before the crowd's end: agent 0 is in `A` and agent 30 in `B`, and their meeting "
-        "would change that",
+        (
+            "the turns are used up before the crowd's end: agent 0 is in `A` and agent 30 in `B`, and their meeting "
+            "would change that"
+        ),
     ),
     Mistake(
         ("play", "net.json", "x=2", "y=1", "0,0"),
@@ -527,55 +579,72 @@ MISTAKES: tuple[Mistake, ...] = (
     ),
     Mistake(("eval",), "vars x y\nx >= y\ncrowd x=1\n", 2, "fault: pred syntax 5", "expected a number, found `y`"),
     Mistake(("eval",), "vars x\nx == 3\ncrowd x=1\n", 2, "fault: pred syntax 3", "expected a number, found `=`"),
-    Mistake(("eval",), "vars x\nz < 3\ncrowd x=1\n", 2, "fault: pred unknown 0", "`z` is no variable here; there is x"),
+    Mistake(
+        ("eval",), "vars x\nz < 3\ncrowd x=1\n", 2, "fault: pred unknown 0", "`z` is no variable here; there is x"
+    ),
     Mistake(
         ("eval", "x - y % 3 = 1", "x=1"),
         None,
         2,
         "fault: pred syntax 6",
-        "`%` on the left of the sign takes one term: put the sum in parentheses, as in `(x - y) % 3 = 1`, or the modulus behind, as in `x - y = 1 mod 3`",
+        (
+            "`%` on the left of the sign takes one term. Put the sum in parentheses, as in `(x - y) % 3 = 1`, or the"
+            " modulus at the end, as in `x - y = 1 mod 3`"
+        ),
     ),
     Mistake(
         ("eval", "x = y % 3", "x=1"),
         None,
         2,
         "fault: pred syntax 4",
-        "`%` stands on the left of the sign, as in `x % 3 = 1`; that two sums leave the same remainder is written `x = y mod 3`",
+        (
+            "`%` belongs on the left of the sign, as in `x % 3 = 1`; that two sums leave the same remainder is written"
+            " `x = y mod 3`"
+        ),
     ),
     Mistake(
         ("eval", "x - y mod 3 = 1", "x=1"),
         None,
         2,
         "fault: pred syntax 6",
-        "`mod` on the left of the sign takes one term: put the sum in parentheses, as in `(x - y) % 3 = 1`, or the modulus behind, as in `x - y = 1 mod 3`",
+        (
+            "`mod` on the left of the sign takes one term. Put the sum in parentheses, as in `(x - y) % 3 = 1`, or the"
+            " modulus at the end, as in `x - y = 1 mod 3`"
+        ),
     ),
     Mistake(
         ("eval", "x = y mod 3 < 2", "x=1"),
         None,
         2,
         "fault: pred syntax 4",
-        "behind a congruence comes `&&`, `||`, `)` or the end, and here is `<`",
+        "after a congruence comes `&&`, `||`, `)` or the end, and here is `<`",
     ),
     Mistake(
         ("eval", "x < 1e5", "x=1"),
         None,
         2,
         "fault: pred syntax 5",
-        "`1e5` is no number, which is digits alone; a product is written `1*e5`, and without the sign where `e5` stands elsewhere too, or is declared",
+        (
+            "`1e5` is no number, which is digits alone; a product is written `1*e5`, and without the sign where `e5`"
+            " also occurs elsewhere, or is declared"
+        ),
     ),
     Mistake(
         ("eval", "x >= 1_000", "x=1"),
         None,
         2,
         "fault: pred syntax 6",
-        "`1_000` is no number, which is digits alone; a product is written `1*_000`, and without the sign where `_000` stands elsewhere too, or is declared",
+        (
+            "`1_000` is no number, which is digits alone; a product is written `1*_000`, and without the sign where"
+            " `_000` also occurs elsewhere, or is declared"
+        ),
     ),
     Mistake(
         ("eval", "x = 1 mod5", "x=1"),
         None,
         2,
         "fault: pred syntax 6",
-        "`mod5`: a blank stands between `mod` and the modulus, as in `mod 5`",
+        "`mod5`: put a blank between `mod` and the modulus, as in `mod 5`",
     ),
     Mistake(
         ("eval", "x * y < 3", "x=1"), None, 2, "fault: pred syntax 2", "a product of two variables has no form here"
@@ -603,8 +672,10 @@ MISTAKES: tuple[Mistake, ...] = (
         None,
         2,
         "fault: width 0 101",
-        "the predicate's comparison 0 (counted from 0) is 101 wide (the greatest of its coefficients and of its "
-        "constant and 1); `compile` builds up to 80",
+        (
+            "the predicate's comparison 0 (counted from 0) is 101 wide (the greatest of its coefficients and of its "
+            "constant and 1); `compile` builds up to 80"
+        ),
     ),
     Mistake(
         ("compile", "@NINE", "--plain"),
@@ -618,8 +689,10 @@ MISTAKES: tuple[Mistake, ...] = (
         None,
         2,
         "fault: wide 4",
-        "the predicate's comparison 4 (counted from 0) is over 42 wide: its leaf has more than 256 states, and a "
-        "net with such a leaf has at most 4 leaves",
+        (
+            "the predicate's comparison 4 (counted from 0) is over 42 wide: its leaf has more than 256 states, and a "
+            "net with such a leaf has at most 4 leaves"
+        ),
     ),
     # journals
     Mistake(
@@ -627,15 +700,17 @@ MISTAKES: tuple[Mistake, ...] = (
         None,
         5,
         "found: 0 1 0 *",
-        "line 6 of the journal isn't what this run prints: the meeting changes something, and the mark ` *` is "
-        "missing",
+        (
+            "line 6 of the journal isn't what this run prints: the meeting changes something, and the mark ` *` is"
+            " missing"
+        ),
     ),
     Mistake(
         ("replay", "worker.txt"),
         None,
         2,
         "fault: journal 5 worker",
-        "line 5 names a worker who isn't there (there are workers 0 to 0) or has all its meetings of this round",
+        "line 5 names a worker that doesn't exist (there are workers 0 to 0) or has all its meetings of this round",
     ),
     Mistake(
         ("replay", "round.txt"),
@@ -652,7 +727,7 @@ MISTAKES: tuple[Mistake, ...] = (
         None,
         2,
         "fault: journal 3 form",
-        "this is a journal of `run`: leave `--watched` away",
+        "this is a journal of `run`: leave `--watched` out",
     ),
     Mistake(
         ("replay", "short.txt"),

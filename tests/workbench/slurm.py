@@ -83,7 +83,9 @@ class Slurm:
         key, place = str(self.folder / "munge.key"), str(self.folder)
         subprocess.run(["mungekey", "--create", "--keyfile", key], env=self.environment, check=True)
         files = [f"--{name}-file={place}/munge.{name}" for name in ("pid", "log", "seed")]
-        self._server("munged", "--foreground", "--force", f"--key-file={key}", f"--socket={place}/munge.socket", *files)
+        self._server(
+            "munged", "--foreground", "--force", f"--key-file={key}", f"--socket={place}/munge.socket", *files
+        )
         self._wait(lambda: (self.folder / "munge.socket").exists())
         self._server("slurmctld", "-D")
         self._server("slurmd", "-D", "-N", host)

@@ -106,24 +106,24 @@ READ = [
     ("x - x + y < 1 + 1", "0*x + y < 2"),
 ]
 REFUSED = [
-    ("x = y % 3", "`%` stands on the left"),
-    ("x = 5 % 3", "`%` stands on the left"),
-    ("4 = x % 3", "`%` stands on the left"),
+    ("x = y % 3", "`%` belongs on the left"),
+    ("x = 5 % 3", "`%` belongs on the left"),
+    ("4 = x % 3", "`%` belongs on the left"),
     ("x - y % 3 = 1", "takes one term"),
     ("x - y mod 3 = 1", "takes one term"),
     ("x < y mod 3", "a remainder is compared by"),
-    ("x = y mod 3 < 2", "behind a congruence"),
-    ("x = 0 mod 2 = y", "behind a congruence"),
-    ("x % 3 = 1 < y", "behind a congruence"),
+    ("x = y mod 3 < 2", "after a congruence"),
+    ("x = 0 mod 2 = y", "after a congruence"),
+    ("x % 3 = 1 < y", "after a congruence"),
     ("x = y = 1 mod 3", "no link of a chain"),
     ("x < 1e5", "`1e5` is no number"),
     ("x >= 1_000", "`1_000` is no number"),
     ("x < 10k", "`10k` is no number"),
     ("x < 0x10", "`0x10` is no number"),
     ("1e5 <= x && x < 1e5", "`1e5` is no number"),
-    ("x = 1 mod5", "a blank stands between"),
-    ("x = 3mod5", "a blank stands between"),
-    ("x mod5 = 1", "a blank stands between"),
+    ("x = 1 mod5", "put a blank between"),
+    ("x = 3mod5", "put a blank between"),
+    ("x mod5 = 1", "put a blank between"),
     ("x % 201 = 1", "a modulus is 2 to 200"),
     ("x mod x = 1", "a modulus is 2 to 200"),
     ("x = y (mod 0)", "a modulus is 2 to 200"),
@@ -295,7 +295,7 @@ def test_layers_that_time_kept_from_us_are_not_denied() -> None:
     leaf = loaded.net.leaves[0]
     result = work(Task(LAYERS, 0, leaf, loaded.whole_tree(), 0.0, 0.0, net=loaded.net, whole=loaded.whole_tree()))
     told = _no_layers(Names(loaded.net.names, leaf), result)
-    assert "may be there: the time was up" in told and "no layers" not in told and "can't be certified" not in told
+    assert "may exist: the time was up" in told and "no layers" not in told and "can't be certified" not in told
 
 
 def test_what_ended_by_time_says_so(monkeypatch: pytest.MonkeyPatch) -> None:

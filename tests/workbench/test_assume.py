@@ -36,7 +36,7 @@ def test_inputs_that_are_left_out_are_no_counterexample() -> None:
     run = pop("refute", "--agents", "5", text="assume x != y\n" + NET)
     assert (
         run.returncode == 0
-        and run.stdout == "no flaw: all inputs of up to 5 agents beside helpers that meet `x - y != 0` were tried\n"
+        and run.stdout == "no flaw: all inputs of up to 5 agents plus helpers that meet `x - y != 0` were tried\n"
     )
     assert pop("refute", "--agents", "5", text=NET).returncode == program.REJECTED
     run = pop("simulate", "-", "x=3", "y=3", text="assume x != y\n" + NET)

@@ -89,7 +89,9 @@ def test_crowds_after_some_meetings(
 
 
 @pytest.mark.parametrize("text, counts", [(MAJORITY, (4, 6)), (REMAINDER, (7,))], ids=("majority", "mod5"))
-def test_the_last_change_and_the_agreement(text: str, counts: tuple[int, ...], monkeypatch: pytest.MonkeyPatch) -> None:
+def test_the_last_change_and_the_agreement(
+    text: str, counts: tuple[int, ...], monkeypatch: pytest.MonkeyPatch
+) -> None:
     """The meeting of the last change, and the one since which all agree."""
     net = net_of(text)
 
@@ -103,7 +105,8 @@ def test_the_last_change_and_the_agreement(text: str, counts: tuple[int, ...], m
 
 
 def test_a_planted_bias_is_found(monkeypatch: pytest.MonkeyPatch) -> None:
-    """A draw that takes one agent more of the first kind, once in a hundred where there are enough runs, is no longer the same."""
+    """A draw that takes one agent more of the first kind, once in a hundred where there are enough runs, is no longer
+    the same."""
     net = net_of(APPROXIMATE)
     limits = Limits(MEETINGS, 6)
     plain = sample(net, (7, 5), limits, lambda run: tuple(run.crowd().items()), 0)
@@ -125,7 +128,8 @@ def test_a_bias_of_one_percent_in_a_draw_is_found() -> None:
 
     def likely(bias: float) -> float:
         drawn = Counter(
-            k + int(k < 4 and batcher.generator.random() < bias) for k in (batcher._good(7, 5, 4) for _ in range(DRAWS))
+            k + int(k < 4 and batcher.generator.random() < bias)
+            for k in (batcher._good(7, 5, 4) for _ in range(DRAWS))
         )
         return float(stats.chisquare([drawn[k] for k in range(5)], expected).pvalue)
 

@@ -10,7 +10,7 @@ pytest.importorskip("scipy")
 from bench.finder import benchmark  # noqa: E402
 from bench.finder.late import late_nets  # noqa: E402
 from hurleyoak.search.explore import explore  # noqa: E402
-from hurleyoak.text.files import LoadedNet  # noqa: E402
+from hurleyoak.text.loaded import LoadedNet  # noqa: E402
 
 LINES = """late	flock	x >= 5, asked for 6	6	15	5	0.1	played, 5 agents		
 late	tower	x >= 20, asked for 21	21	39	20	2.5	neither: wrong end		

@@ -40,7 +40,9 @@ def test_net_bundle_and_text_from_any_folder(tmp_path: Path) -> None:
 def test_faults_and_usage() -> None:
     bad = pop("net", text="inputs x: A\nA + A > b + b\nyes b\n")
     assert (bad.returncode, bad.stdout) == (program.REFUSED, "")
-    assert bad.stderr == "pop: standard input:2:7: expected `->`, found `>`\n         A + A > b + b\n               ^\n"
+    assert (
+        bad.stderr == "pop: standard input:2:7: expected `->`, found `>`\n         A + A > b + b\n               ^\n"
+    )
     assert pop("net", "--odd").returncode == program.USAGE
     assert pop("net", "/nowhere").stderr == "pop: /nowhere: No such file or directory\n"
     assert "`bin/pop find` looks for" in pop("bundle", text=(EXAMPLES / "majority" / "net.json").read_text()).stderr

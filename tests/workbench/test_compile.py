@@ -18,7 +18,8 @@ from hurleyoak.proof.checking import verdict
 from hurleyoak.protocol.nets import Leaf, Net
 from hurleyoak.show.netdrawing import DRAWN_STATES, dot_text, table_text
 from hurleyoak.text.files import load_path
-from hurleyoak.protocol.predicates import And, Less, Predicate, Rest, atom_of, read_predicate, value_at
+from hurleyoak.protocol.predicatereader import read_predicate
+from hurleyoak.protocol.predicates import And, Less, Predicate, Rest, atom_of, value_at
 
 from .conftest import TOP, needs_program
 
@@ -162,7 +163,8 @@ def test_settle_agrees_at_the_edge(text: str, inside: tuple[int, int], outside: 
 
 
 def test_sizes_are_those_of_the_construction() -> None:
-    """3k + 5 states for `x - y < 2^k`, 9k + 6 moves and k + 2 helpers; flocks without helpers where all can do without."""
+    """3k + 5 states for `x - y < 2^k`, 9k + 6 moves and k + 2 helpers; flocks without helpers where all can do
+    without."""
     for k in (5, 20, 40):
         out = compiled(Less((1, -1), 1 << k), ["x", "y"])
         leaf = out.bundle.net.leaves[0]

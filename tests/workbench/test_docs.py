@@ -10,7 +10,8 @@ import pytest
 
 from hurleyoak.engine import program
 from hurleyoak.cli.table import OWN as TABLE
-from hurleyoak.text.files import load, strict_bundle
+from hurleyoak.text.files import load
+from hurleyoak.text.loaded import strict_bundle
 from hurleyoak.text.popsections import FILE_WORDS, LEAF_WORDS
 
 from .conftest import EXAMPLES, TOP, bundle_at, needs_program
@@ -62,7 +63,10 @@ def test_the_explained_node_is_what_explain_prints() -> None:
 @needs_program
 def test_the_counterexample_is_what_find_prints() -> None:
     block = next(b for b in blocks(WORKBENCH) if b.startswith("the protocol is wrong"))
-    wrong = "inputs x: A  y: B\nA + B -> a + b\nA + b -> A + a\nB + a -> B + b\na + b -> a + a\nyes A a\ncomputes y - x < 0\n"
+    wrong = (
+        "inputs x: A  y: B\nA + B -> a + b\nA + b -> A + a\nB + a -> B + b\na + b -> a + a\nyes A a\ncomputes y - x"
+        " < 0\n"
+    )
     assert pop("refute", text=wrong).stdout == block
 
 

@@ -109,7 +109,9 @@ def test_odd_names_of_nets(tmp_path: Path) -> None:
     latin = os.fsencode(tmp_path) + b"/n\xe9.pop"
     with open(latin, "w") as file:
         file.write(NET)
-    run = subprocess.run([os.fsencode(POP), b"sweep", latin, b"x=3", b"--runs", b"2"], capture_output=True, check=False)
+    run = subprocess.run(
+        [os.fsencode(POP), b"sweep", latin, b"x=3", b"--runs", b"2"], capture_output=True, check=False
+    )
     assert run.returncode == program.DONE and b"Traceback" not in run.stderr
     run = subprocess.run(
         [os.fsencode(POP), b"sweep", latin, b"x=3", b"--runs", b"1", b"--list"], capture_output=True, check=False

@@ -11,7 +11,8 @@ from hurleyoak.engine import program
 from hurleyoak.proof.checking import verdict
 from hurleyoak.show.drawing import drawn
 from hurleyoak.show.explaining import bundle_to_explain, explain
-from hurleyoak.text.files import load, strict_bundle
+from hurleyoak.text.files import load
+from hurleyoak.text.loaded import strict_bundle
 from hurleyoak.protocol.nets import FormatFault, compact
 from hurleyoak.show.page import page
 from hurleyoak.proof.bundles import Bundle, bundle_of
@@ -93,7 +94,7 @@ def told_of(bundle: Bundle) -> str:
             [
                 "`N0 + N0 -> N0 + f`",
                 "possible again",
-                "before it the agents N0, N0, N1 stand there",
+                "before it the agents N0, N0, N1 are there",
                 "after it there are N0, f, N1, and `N1 + f -> N1 + t` is possible",
             ],
         ),
@@ -117,7 +118,8 @@ def test_what_is_missing_is_said(name: str, sentences: list[str]) -> None:
     ],
 )
 def test_a_dropped_move_is_told(name: str, move: str, tells: str) -> None:
-    """The recipes of docs/guide/certificates.md, each with a move dropped from its net: what is wrong is said where it is."""
+    """The recipes of docs/guide/certificates.md, each with a move dropped from its net: what is wrong is said where it
+    is."""
     text = (EXAMPLES / name / f"{name}.pop").read_text()
     head, proof = text.split("\nwhen true", 1)
     assert f"\n{move}\n" in head

@@ -12,7 +12,8 @@ from hypothesis import strategies as st
 
 from hurleyoak.engine import program
 from hurleyoak.faults import InputFault
-from hurleyoak.text.files import load, strict_bundle
+from hurleyoak.text.files import load
+from hurleyoak.text.loaded import strict_bundle
 from hurleyoak.protocol.nets import FormatFault, Leaf, Net, compact, net_of
 from hurleyoak.proof.bundles import (
     Bundle,

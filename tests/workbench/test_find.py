@@ -12,9 +12,11 @@ from hypothesis.strategies import integers
 from hurleyoak.engine import program
 from hurleyoak.proof.checking import first_woken, layer_fault, verdict
 from hurleyoak.proof.facts import Space
-from hurleyoak.text.files import LoadedNet, load
+from hurleyoak.text.files import load
+from hurleyoak.text.loaded import LoadedNet
 from hurleyoak.protocol.nets import Leaf, Net, pair
-from hurleyoak.protocol.predicates import Predicate, read_predicate, value_at
+from hurleyoak.protocol.predicatereader import read_predicate
+from hurleyoak.protocol.predicates import Predicate, value_at
 from hurleyoak.proof.bundles import Bundle, Layer, Node, Present, Siphon, Split, Trap, Twin
 
 from .conftest import CHANGES, EXAMPLES, bundle_at, example_paths, needs_program
@@ -174,11 +176,18 @@ PARTS = (EXAMPLES / "majority" / "majority.pop").read_text()
         ("lin -flow(A) + flow(B) + value - absent(A)", "lin ?"),
         ("layer     A: 1  B: 1  b: 1", "layer     ?"),
         (
-            "      here: trap {A, b}\n        leaves: lin leaves{A, b}\n        never: lin flow(a) + here(a) - never[A + B -> a + b] - never[A + b -> A + a]\n        some: lin -absent(A) - absent(b) + some{A, b}\n",
+            (
+                "      here: trap {A, b}\n        leaves: lin leaves{A, b}\n        never: lin flow(a) + here(a) -"
+                " never[A + B -> a + b] - never[A + b -> A + a]\n        some: lin -absent(A) - absent(b) + some{A,"
+                " b}\n"
+            ),
             "      here: ?\n",
         ),
         (
-            "when true\n  open predicate\n  present A\n    absent: lin -flow(A) + flow(B) + value - absent(A)\n    here: lin wrong - absent(B) - absent(b)\n",
+            (
+                "when true\n  open predicate\n  present A\n    absent: lin -flow(A) + flow(B) + value - absent(A)\n   "
+                " here: lin wrong - absent(B) - absent(b)\n"
+            ),
             "when true ?\n",
         ),
     ],
@@ -215,12 +224,18 @@ ENDLESS = "inputs x: A y: B\nA + B -> B + C\nB + C -> A + B\nyes A B\ncomputes x
 RESTLESS = ENDLESS.replace("yes A B\n", "yes A B C\n")
 # majority whose b goes on between b1 and b2, and the same with a wrong b2
 FLIPPING = (
-    "inputs x: A  y: B\nA + B -> a + b1\nA + b1 -> A + a\nA + b2 -> A + a\nB + a -> B + b1\na + b1 -> b1 + b1\na + b2 -> b2 + b1\n"
-    "B + b1 -> B + b2\nB + b2 -> B + b1\nyes A a\ncomputes y - x < 0\n"
+    "inputs x: A  y: B\nA + B -> a + b1\nA + b1 -> A + a\nA + b2 -> A + a\nB + a -> B + b1\na + b1 -> b1 + b1\na + b2"
+    " -> b2 + b1\nB + b1 -> B + b2\nB + b2 -> B + b1\nyes A a\ncomputes y - x < 0\n"
 )
 HIDDEN = "inputs x: A y: B\nA + B -> A + A\nA + B -> B + B\nyes A\ncomputes x >= 1\n"
-ORDER = "inputs x: 1  y: 0\n1 + 1 -> 2 + 0\n2 + 2 -> 4 + 0\n4 + 0 -> 4 + 2\n4 + 1 -> 4 + 4\n4 + 2 -> 4 + 4\nyes 4\ncomputes x >= 4\n"
-UNMERGED = "inputs x: x\nhelpers H0\nH0 + x -> H1 + f\nH1 + x -> H0 + f\nH0 + f -> H0 + t\nH1 + t -> H1 + f\nyes H0 t\ncomputes x = 0 mod 2\n"
+ORDER = (
+    "inputs x: 1  y: 0\n1 + 1 -> 2 + 0\n2 + 2 -> 4 + 0\n4 + 0 -> 4 + 2\n4 + 1 -> 4 + 4\n4 + 2 -> 4 + 4\nyes"
+    " 4\ncomputes x >= 4\n"
+)
+UNMERGED = (
+    "inputs x: x\nhelpers H0\nH0 + x -> H1 + f\nH1 + x -> H0 + f\nH0 + f -> H0 + t\nH1 + t -> H1 + f\nyes H0"
+    " t\ncomputes x = 0 mod 2\n"
+)
 
 
 @needs_program
@@ -228,7 +243,8 @@ def test_a_counterexample_is_played(tmp_path: Path) -> None:
     run = pop("find", "--write", str(tmp_path / "play.txt"), text=WRONG)
     assert run.returncode == program.REJECTED
     assert run.stderr.startswith(
-        "the protocol is wrong: at x=1 y=1 the predicate `y - x < 0` is false, and 2 moves lead to a terminal crowd in which a outputs true\n"
+        "the protocol is wrong: at x=1 y=1 the predicate `y - x < 0` is false, and 2 moves lead to a terminal crowd in"
+        " which a outputs true\n"
     )
     assert run.stderr.endswith("printed:\na 2\nterminal\nwrong: a\n")
     assert program.ask(["play"], (tmp_path / "play.txt").read_text()).text == "a 2\nterminal\n"
@@ -242,7 +258,7 @@ def test_a_protocol_that_does_not_end() -> None:
     assert run.stdout.startswith(
         "the protocol is wrong, and doesn't end: at x=1 y=1 from the input itself no terminal crowd can be reached\n"
     )
-    assert "an agent outputs false" in run.stdout and "the workbench's own word" in run.stdout
+    assert "an agent outputs false" in run.stdout and "the workbench says that none can be reached" in run.stdout
     assert "goes round: 1 A, 1 B; 1 B, 1 C, and again" in run.stdout and "enabled 0 1" in run.stdout
     assert pop("find", text=ENDLESS).stderr == run.stdout
 
@@ -259,7 +275,7 @@ def test_stable_but_not_silent_is_no_counterexample() -> None:
             f"stable, but not silent: {told} no terminal crowd can be reached, while every agent outputs "
         )
         assert (
-            "all inputs of up to 5 agents beside helpers were tried" in run.stdout
+            "all inputs of up to 5 agents plus helpers were tried" in run.stdout
             and "In the literature such a protocol is right" in run.stdout
         )
         run = pop("find", text=text)
@@ -326,7 +342,7 @@ def test_kinds_of_flaws_are_those_of_the_bottom_components(net: Net, first: int,
 def test_a_way_that_needs_a_hidden_move() -> None:
     run = pop("refute", text=HIDDEN)
     assert run.returncode == program.REJECTED
-    assert "no meeting takes `A + B -> B + B`" in run.stdout and "cannot show it" in run.stdout
+    assert "no meeting takes `A + B -> B + B`" in run.stdout and "can't show it" in run.stdout
 
 
 @needs_program
@@ -356,7 +372,7 @@ def test_find_through_bin_pop() -> None:
     assert run.stderr.startswith("certified 5\nleaf 0: 1 layer, bound 2")
     assert (
         pop("refute", str(EXAMPLES / "majority/majority.pop"), "--agents", "5").stdout
-        == "no flaw: all inputs of up to 5 agents beside helpers were tried\n"
+        == "no flaw: all inputs of up to 5 agents plus helpers were tried\n"
     )
     assert pop("find", "--odd").returncode == program.USAGE
 

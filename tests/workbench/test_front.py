@@ -13,7 +13,8 @@ from hurleyoak.engine import program
 from hurleyoak.show.ending import undecided_told
 from hurleyoak.engine.inputs import cut_json
 from hurleyoak.text.relaxed import in_form
-from hurleyoak.protocol.predicates import read_predicate, value_at
+from hurleyoak.protocol.predicatereader import read_predicate
+from hurleyoak.protocol.predicates import value_at
 
 from .conftest import EXAMPLES, TOP, needs_program
 from .mistakes import MISTAKES

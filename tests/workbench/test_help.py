@@ -1,4 +1,5 @@
-"""Help: each command has a page whose examples run; the manual page and the completions are made from the same text."""
+"""Help: each command has a page whose examples run; the manual page and the completions are made from the same
+text."""
 from __future__ import annotations
 
 import os
@@ -111,7 +112,10 @@ def test_manual_and_completions_are_made_from_the_help() -> None:
 
 
 def _completed(*words: str) -> list[str]:
-    line = f"source '{TOP}/completion/pop.bash'; COMP_WORDS=(pop {' '.join(words)}); [ '{words[-1]}' ] || COMP_WORDS+=(''); COMP_CWORD={len(words)}; _pop; echo ${{COMPREPLY[@]}}"
+    line = (
+        f"source '{TOP}/completion/pop.bash'; COMP_WORDS=(pop {' '.join(words)}); [ '{words[-1]}' ] ||"
+        f" COMP_WORDS+=(''); COMP_CWORD={len(words)}; _pop; echo ${{COMPREPLY[@]}}"
+    )
     return subprocess.run(["bash", "-c", line], capture_output=True, text=True, check=True).stdout.split()
 
 

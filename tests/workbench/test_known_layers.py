@@ -7,7 +7,7 @@ from hurleyoak.engine import program
 from hurleyoak.proof.bundles import Bundle
 from hurleyoak.proof.checking import layer_fault, verdict
 from hurleyoak.protocol.nets import Leaf
-from hurleyoak.text.files import LoadedNet, Written
+from hurleyoak.text.loaded import LoadedNet, Written
 from hurleyoak.text.proofreader import LayerDraft, ProofDraft
 
 from .conftest import needs_program

@@ -87,7 +87,8 @@ def test_one_meeting_has_its_chance() -> None:
 
 
 def test_batches_take_chances_and_orders(monkeypatch: pytest.MonkeyPatch) -> None:
-    """20,000 agents, half A, 1,000 meetings: AB and BA are a quarter of them each, of which a fifth changes one way."""
+    """20,000 agents, half A, 1,000 meetings: AB and BA are a quarter of them each, of which a fifth changes one
+    way."""
     net = load(HEAD + "A , B -> A , a @ 0.2\n" + FOOT, "f").net
     changes = []
     for seed in range(60):

@@ -105,7 +105,8 @@ def test_no_call_starts_a_build(monkeypatch: pytest.MonkeyPatch, tmp_path: Path)
 def test_the_command_line_starts_without_the_library() -> None:
     """`import hurleyoak` alone imports nothing of weight."""
     words = (
-        "import sys, hurleyoak; print(sorted(m for m in sys.modules if m.startswith(('hurleyoak.', 'numpy', 'scipy'))))"
+        "import sys, hurleyoak; print(sorted(m for m in sys.modules if m.startswith(('hurleyoak.', 'numpy',"
+        " 'scipy'))))"
     )
     run = subprocess.run(["/usr/bin/python3", "-c", words], capture_output=True, text=True, cwd=TOP, check=True)
     assert run.stdout == "[]\n"

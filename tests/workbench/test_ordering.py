@@ -1,4 +1,5 @@
-"""Candidates that become counterexamples by an order of their own moves, where all crowds of their input are too many."""
+"""Candidates that become counterexamples by an order of their own moves, where all crowds of their input are too
+many."""
 from __future__ import annotations
 
 from itertools import permutations
@@ -30,7 +31,8 @@ def powers(exponent: int, least: int) -> str:
 TWO = (
     "combine many || odd\nleaf many\n"
     + powers(4, 17)
-    + "leaf odd\ninputs x: i\ni + i -> z + e\ni + z -> i + o\ni + e -> i + o\nz + o -> z + e\ne + o -> e + e\nyes i o\ncomputes x = 1 mod 2\n"
+    + "leaf odd\ninputs x: i\ni + i -> z + e\ni + z -> i + o\ni + e -> i + o\nz + o -> z + e\ne + o -> e + e\nyes i"
+    " o\ncomputes x = 1 mod 2\n"
 )
 
 
@@ -40,15 +42,24 @@ TWO = (
     [
         (
             powers(6, 65),
-            "at x=64 the predicate `x >= 65` is false, and 126 moves lead to a terminal crowd in which 64 outputs true",
+            (
+                "at x=64 the predicate `x >= 65` is false, and 126 moves lead to a terminal crowd in which 64 outputs"
+                " true"
+            ),
         ),
         (
             powers(10, 1025),
-            "at x=1024 the predicate `x >= 1025` is false, and 2046 moves lead to a terminal crowd in which 1024 outputs true",
+            (
+                "at x=1024 the predicate `x >= 1025` is false, and 2046 moves lead to a terminal crowd in which 1024"
+                " outputs true"
+            ),
         ),
         (
             TWO,
-            'at x=16 the predicate `x >= 17 || x = 1 mod 2` is false, and 30 moves lead to a terminal crowd in which "16/z", "16/e" output true',
+            (
+                "at x=16 the predicate `x >= 17 || x = 1 mod 2` is false, and 30 moves lead to a terminal crowd in"
+                ' which "16/z", "16/e" output true'
+            ),
         ),
     ],
     ids=["64 agents", "1024 agents", "two leaves"],
@@ -61,11 +72,14 @@ def test_a_candidate_s_own_moves_are_played(text: str, told: str) -> None:
 
 @needs_program
 def test_moves_without_an_order_are_told() -> None:
-    text = "inputs x: 1  y: 0\n1 + 1 -> 2 + 0\n2 + 2 -> 4 + 0\n4 + 0 -> 4 + 2\n4 + 1 -> 4 + 4\n4 + 2 -> 4 + 4\nyes 4\ncomputes x >= 4\n"
+    text = (
+        "inputs x: 1  y: 0\n1 + 1 -> 2 + 0\n2 + 2 -> 4 + 0\n4 + 0 -> 4 + 2\n4 + 1 -> 4 + 4\n4 + 2 -> 4 + 4\nyes"
+        " 4\ncomputes x >= 4\n"
+    )
     run = pop("find", text=text)
     assert run.returncode == program.UNDECIDED
     assert (
-        "\nThese moves can be taken in no order: " in run.stderr
+        "\nNo order of these moves is possible: " in run.stderr
         and "Other moves may lead there\nIt can't be reached: all " in run.stderr
     )
 

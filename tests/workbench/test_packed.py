@@ -10,7 +10,7 @@ from hypothesis.strategies import integers
 pytest.importorskip("numpy")
 
 from hurleyoak.protocol.nets import Leaf, Net  # noqa: E402
-from hurleyoak.protocol.predicates import read_predicate  # noqa: E402
+from hurleyoak.protocol.predicatereader import read_predicate  # noqa: E402
 from hurleyoak.search.explore import explore, flaw_at, inputs_of  # noqa: E402
 from hurleyoak.search.packed import Packed, packed_flaw  # noqa: E402
 from hurleyoak.search.whole import system_of  # noqa: E402

@@ -81,7 +81,10 @@ def test_a_move_leads_to_its_line(shared: Page, tmp_path: Path) -> None:
     page = opened(shared, path)
     for agent in (0, 12):
         page.js(
-            "document.querySelector(`.agent[data-i='${arguments[0]}']`).dispatchEvent(new MouseEvent('click', {bubbles: true}))",
+            (
+                "document.querySelector(`.agent[data-i='${arguments[0]}']`).dispatchEvent(new MouseEvent('click',"
+                " {bubbles: true}))"
+            ),
             agent,
         )
     page.js("document.querySelector('#panel-play .way .move').click()")
@@ -106,7 +109,8 @@ def test_nothing_is_fetched_and_nothing_else_runs(shared: Page, tmp_path: Path) 
     page = opened(shared, path)
     assert page.js("return performance.getEntriesByType('resource').length") == 0
     assert "blocked" in page.js(
-        "try { document.body.insertAdjacentHTML('beforeend', '<b>x</b>'); return 'done' } catch (error) { return 'blocked' }"
+        "try { document.body.insertAdjacentHTML('beforeend', '<b>x</b>'); return 'done' } catch (error) { return"
+        " 'blocked' }"
     )
     page.sees("#verdict", "not proved")
     page.complaints()
@@ -159,7 +163,17 @@ def test_what_cannot_be_shown_is_refused(words: list[str], text: str | None, sta
 def test_traces_are_its_curves(tmp_path: Path) -> None:
     (tmp_path / "net.pop").write_text(NET)
     run = subprocess.run(
-        [POP, "simulate", str(tmp_path / "net.pop"), "x=9", "y=4", "--seed", "5", "--trace", str(tmp_path / "a.trace")],
+        [
+            POP,
+            "simulate",
+            str(tmp_path / "net.pop"),
+            "x=9",
+            "y=4",
+            "--seed",
+            "5",
+            "--trace",
+            str(tmp_path / "a.trace"),
+        ],
         capture_output=True,
     )
     assert run.returncode == 0

@@ -273,7 +273,8 @@ def test_what_is_missing_is_asked_for_by_name(tmp_path: Path) -> None:
 
 
 def test_many_runs_have_a_band_and_two_curves_one_picture(tmp_path: Path) -> None:
-    """The runs of `--every` as means with bands; two traces on the same axes; names that had to move have leader lines."""
+    """The runs of `--every` as means with bands; two traces on the same axes; names that had to move have leader
+    lines."""
     runs, path = tmp_path / "runs", tmp_path / "runs.svg"
     epidemic = str(EXAMPLES / "epidemic/epidemic.pop")
     made = pop("simulate", epidemic, "x=1", "y=99", "--every", "1", "--runs", "6", "--trace", str(runs))

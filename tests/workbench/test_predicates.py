@@ -9,18 +9,8 @@ from hypothesis import strategies as st
 
 from hurleyoak.engine import program
 from hurleyoak.protocol.nets import Net, Leaf
-from hurleyoak.protocol.predicates import (
-    And,
-    Less,
-    Not,
-    Or,
-    Predicate,
-    PredicateFault,
-    Rest,
-    canonical_text,
-    read_predicate,
-    value_at,
-)
+from hurleyoak.protocol.predicatereader import read_predicate
+from hurleyoak.protocol.predicates import And, Less, Not, Or, Predicate, PredicateFault, Rest, canonical_text, value_at
 from hurleyoak.protocol.combining import combined_predicate, leaf_predicates
 
 from .conftest import CHANGES, needs_program

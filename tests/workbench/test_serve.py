@@ -594,7 +594,11 @@ def test_a_full_disk_leaves_the_file(tmp_path: Path) -> None:
         [
             "sh",
             "-c",
-            f"ulimit -f 1; exec /usr/bin/python3 -c \"\nimport signal; signal.signal(signal.SIGXFSZ, signal.SIG_IGN)\nfrom hurleyoak.serve.document import Document\none = Document('{path}')\none.save('x' * 10000, one.mark(one.text()))\"",
+            (
+                'ulimit -f 1; exec /usr/bin/python3 -c "\nimport signal; signal.signal(signal.SIGXFSZ,'
+                " signal.SIG_IGN)\nfrom hurleyoak.serve.document import Document\none ="
+                f" Document('{path}')\none.save('x' * 10000, one.mark(one.text()))\""
+            ),
         ],
         cwd=TOP,
         capture_output=True,

@@ -41,7 +41,10 @@ class Seen:
 
     def press(self, view: str, text: str) -> None:
         """Presses a button of a view by what it says."""
-        find = "return [...document.querySelectorAll(arguments[0] + ' button')].find((one) => one.textContent.includes(arguments[1]) && !one.disabled && one.offsetParent)"
+        find = (
+            "return [...document.querySelectorAll(arguments[0] + ' button')].find((one) =>"
+            " one.textContent.includes(arguments[1]) && !one.disabled && one.offsetParent)"
+        )
         assert wait_for(lambda: self.fox.js(f"{find} !== undefined", f"#panel-{view}", text)), text
         self.fox.js(f"({find.replace('return ', '')}).click()", f"#panel-{view}", text)
 
@@ -113,7 +116,8 @@ def test_hostile_names_do_nothing(seen: Seen) -> None:
 def test_no_text_becomes_html(seen: Seen) -> None:
     """Where the browser has no Trusted Types, the rest of the policy keeps scripts out."""
     seen.fox.js(
-        "const one = document.createElement('a'); document.body.append(one); try { one.setAttribute('onclick', 'window.hurt = 1'); one.click() } catch {} one.remove()"
+        "const one = document.createElement('a'); document.body.append(one); try { one.setAttribute('onclick',"
+        " 'window.hurt = 1'); one.click() } catch {} one.remove()"
     )
     assert seen.fox.js("return window.hurt === undefined")
     seen.fox.ask("Marionette:SetContext", {"value": "chrome"})

@@ -1,4 +1,5 @@
-"""Hostile names and lines of text through the page: no script runs, and the console stays quiet. FUZZ says how many."""
+"""Hostile names and lines of text through the page: no script runs, and the console stays quiet. FUZZ says how
+many."""
 from __future__ import annotations
 
 import os
@@ -55,9 +56,9 @@ def server() -> Iterator[Server]:
 
 def name(rng: random.Random) -> str:
     """A state's name, in quotes."""
-    made = "".join(rng.choice(PIECES) if rng.random() < 0.6 else rng.choice(SIGNS) for _ in range(rng.randrange(1, 4)))[
-        :32
-    ]
+    made = "".join(
+        rng.choice(PIECES) if rng.random() < 0.6 else rng.choice(SIGNS) for _ in range(rng.randrange(1, 4))
+    )[:32]
     return '"' + made.replace("\\", "\\\\").replace('"', '\\"') + '"'
 
 

@@ -53,7 +53,8 @@ def test_a_fault_is_marked_as_it_is_typed(there: Page) -> None:
     there.sees("#faults", "expected `->`, found `=`")
     assert there.has(".line-fault .mark-fault") and there.text(".mark-fault") == "="
     there.js(
-        "const code = document.querySelector('.CodeMirror').CodeMirror; code.replaceRange('->', {line: 1, ch: 6}, {line: 1, ch: 8})"
+        "const code = document.querySelector('.CodeMirror').CodeMirror; code.replaceRange('->', {line: 1, ch: 6},"
+        " {line: 1, ch: 8})"
     )
     assert wait_for(lambda: not there.text("#faults"))
     there.sees("#panel-play .chips", "A12")
@@ -134,7 +135,8 @@ def test_simulate_draws(there: Page) -> None:
     assert all(
         len(str(path)) > 200
         for path in there.js(
-            "return [...document.querySelectorAll('#panel-behaviour .series path')].map((one) => one.getAttribute('d'))"
+            "return [...document.querySelectorAll('#panel-behaviour .series path')].map((one) =>"
+            " one.getAttribute('d'))"
         )[:2]
     )
     there.js("document.getElementById('sizes').value = 'x=10..80*2 y=x/4'")
@@ -150,7 +152,10 @@ def test_two_agents_meet_by_the_mouse_and_by_keys(there: Page) -> None:
     there.sees("#panel-play .chips", "B5")
     for agent in (0, 12):
         there.js(
-            "document.querySelector(`.agent[data-i='${arguments[0]}']`).dispatchEvent(new MouseEvent('click', {bubbles: true}))",
+            (
+                "document.querySelector(`.agent[data-i='${arguments[0]}']`).dispatchEvent(new MouseEvent('click',"
+                " {bubbles: true}))"
+            ),
             agent,
         )
     there.sees("#panel-play .way", "A + B → a + b")
@@ -175,7 +180,8 @@ def test_random_meetings_come_to_what_the_program_plays(there: Page) -> None:
         there.put((EXAMPLES / name).read_text())
         there.sees("#verdict", "certified")
         there.js(
-            "document.querySelector('.speedbox input').value = 100; document.querySelector('.speedbox input').dispatchEvent(new Event('input'))"
+            "document.querySelector('.speedbox input').value = 100; document.querySelector('.speedbox"
+            " input').dispatchEvent(new Event('input'))"
         )
         there.one('[aria-label="Random meetings"]').click()
         there.sees("#panel-play .said", "No meeting changes anything any more, and all say true")
@@ -202,7 +208,10 @@ def test_the_tour_goes_from_two_meetings_to_a_certificate(there: Page) -> None:
     there.sees("#panel-play .chips", "B5")
     for agent in (0, 12, 1, 13):
         there.js(
-            "document.querySelector(`.agent[data-i='${arguments[0]}']`).dispatchEvent(new MouseEvent('click', {bubbles: true}))",
+            (
+                "document.querySelector(`.agent[data-i='${arguments[0]}']`).dispatchEvent(new MouseEvent('click',"
+                " {bubbles: true}))"
+            ),
             agent,
         )
     there.sees("#tour", "3 of 4")
@@ -222,7 +231,8 @@ def test_an_own_protocol_comes_to_a_certificate(there: Page) -> None:
     there.one("#new").click()
     there.sees("#panel-play .chips", "A12B5")
     there.js(
-        "const code = document.querySelector('.CodeMirror').CodeMirror; code.replaceRange('A + A -> A + B', {line: 2, ch: 0}, {line: 2, ch: 14})"
+        "const code = document.querySelector('.CodeMirror').CodeMirror; code.replaceRange('A + A -> A + B', {line: 2,"
+        " ch: 0}, {line: 2, ch: 14})"
     )
     there.tab("proof")
     there.press("proof", "Find a proof")
@@ -247,11 +257,13 @@ def test_names_are_completed_and_told(there: Page) -> None:
     Actions(there.browser).send_keys(Keys.ENTER).perform()
     assert wait_for(lambda: there.js("return document.querySelector('.CodeMirror').CodeMirror.getLine(4)") == "Alpha")
     there.js(
-        "const code = document.querySelector('.CodeMirror').CodeMirror; code.setCursor(1, 10); code.options.extraKeys.F1()"
+        "const code = document.querySelector('.CodeMirror').CodeMirror; code.setCursor(1, 10);"
+        " code.options.extraKeys.F1()"
     )
     there.sees("#says", "state Beta: says true; y starts here; it meets in 1 move")
     there.js(
-        "const code = document.querySelector('.CodeMirror').CodeMirror; code.setCursor(2, 1); code.options.extraKeys.F1()"
+        "const code = document.querySelector('.CodeMirror').CodeMirror; code.setCursor(2, 1);"
+        " code.options.extraKeys.F1()"
     )
     there.sees("#says", "yes: the states that say true")
 
@@ -262,7 +274,8 @@ def test_what_settles_is_watched_and_lit_in_the_net(there: Page) -> None:
     there.press("play", "As the proof goes")
     there.sees("#panel-play .banner", "Crowd by crowd")
     there.js(
-        "document.querySelector('#panel-play .crowds').open = true; document.querySelectorAll('#panel-play .crowds button')[3].click()"
+        "document.querySelector('#panel-play .crowds').open = true; document.querySelectorAll('#panel-play .crowds"
+        " button')[3].click()"
     )
     there.sees("#panel-play .count", "3 of")
     there.tab("net")
@@ -382,7 +395,8 @@ def test_a_member_of_a_family_is_chosen(there: Page) -> None:
     there.put("family k in 2..4\ninputs x: 1\nfor i in 1..k-1\n  1 + {i} -> {i+1} + 0\nyes {k}\n")
     there.sees("#panel-play .inputs", "k=2")
     there.js(
-        "const one = document.querySelector('#panel-play select'); one.value = 2; one.dispatchEvent(new Event('change'))"
+        "const one = document.querySelector('#panel-play select'); one.value = 2; one.dispatchEvent(new"
+        " Event('change'))"
     )
     there.sees("#panel-play .chips", "4")
 
@@ -392,7 +406,9 @@ def test_a_screen_reader_finds_its_way(there: Page) -> None:
     there.put(NET)
     there.sees("#panel-play .chips", "A12")
     tree = there.browser.execute_cdp_cmd("Accessibility.getFullAXTree", {})["nodes"]
-    known = {(node["role"]["value"], node.get("name", {}).get("value", "")) for node in tree if not node.get("ignored")}
+    known = {
+        (node["role"]["value"], node.get("name", {}).get("value", "")) for node in tree if not node.get("ignored")
+    }
     for role, name in [
         ("tab", "Play"),
         ("tablist", "Views"),
@@ -438,7 +454,8 @@ def test_hostile_names_do_nothing(there: Page) -> None:
         assert there.js("return window.hurt") is None and there.js("return Object.prototype.hurt") is None
         assert there.js("return document.scripts.length") == scripts
         assert not there.js(
-            "return [...document.querySelectorAll('img, b')].some((one) => one.onerror || one.textContent.startsWith('old'))"
+            "return [...document.querySelectorAll('img, b')].some((one) => one.onerror ||"
+            " one.textContent.startsWith('old'))"
         )
     assert "<script>hurt=1" in there.text("#panel-net .state text")
 
@@ -457,10 +474,12 @@ def test_hostile_names_do_nothing_in_the_page_of_explain(there: Page, tmp_path: 
 @pytest.mark.quick
 def test_a_script_that_is_put_in_does_nothing(there: Page) -> None:
     assert "blocked" in there.js(
-        "const one = document.createElement('a'); document.body.append(one); try { one.setAttribute('onclick', 'window.hurt = 1'); one.click(); return 'done' } catch (error) { return 'blocked' }"
+        "const one = document.createElement('a'); document.body.append(one); try { one.setAttribute('onclick',"
+        " 'window.hurt = 1'); one.click(); return 'done' } catch (error) { return 'blocked' }"
     )
     assert "blocked" in there.js(
-        "try { document.body.insertAdjacentHTML('beforeend', '<b>x</b>'); return 'done' } catch (error) { return 'blocked' }"
+        "try { document.body.insertAdjacentHTML('beforeend', '<b>x</b>'); return 'done' } catch (error) { return"
+        " 'blocked' }"
     )
     assert there.js("return window.hurt") is None
     there.is_quiet = False
@@ -487,7 +506,11 @@ def test_another_site_gets_nothing(there: Page, server: Server) -> None:
     address = f"http://127.0.0.1:{server.port}"
     assert there.browser.execute_async_script(ask, address, server.key, "cors") == "failed"
     assert there.browser.execute_async_script(ask, address, server.key, "no-cors") in ("failed", "opaque 0")
-    framed = "const [address, done] = arguments; const one = document.createElement('iframe'); one.onload = () => { try { done(String(one.contentDocument && one.contentDocument.title)) } catch (error) { done('shut') } }; one.src = address; document.body.append(one)"
+    framed = (
+        "const [address, done] = arguments; const one = document.createElement('iframe'); one.onload = () => { try {"
+        " done(String(one.contentDocument && one.contentDocument.title)) } catch (error) { done('shut') } }; one.src ="
+        " address; document.body.append(one)"
+    )
     assert there.browser.execute_async_script(framed, address) in ("shut", "null", "")
     other.shutdown()
     there.is_quiet = False
@@ -498,7 +521,8 @@ def test_a_page_that_is_left_ends_its_job(there: Page, server: Server) -> None:
     there.sees("#panel-play .chips", "A12")
     there.tab("behaviour")
     there.js(
-        "document.querySelectorAll('#panel-behaviour .count-of input').forEach((one, i) => (one.value = [7000, 4000][i]))"
+        "document.querySelectorAll('#panel-behaviour .count-of input').forEach((one, i) => (one.value = [7000,"
+        " 4000][i]))"
     )
     there.press("behaviour", "Simulate")
     there.sees("#panel-behaviour [role=status]", "meetings")
@@ -533,7 +557,9 @@ def test_it_fits(browser: Page, server: Server, width: int, height: int) -> None
         assert shown.is_displayed() and shown.rect["height"] > height / 2
         # what can be pressed has a name
         assert not browser.js(
-            "return [...document.querySelectorAll('button, input:not([type=file]), select')].filter((one) => one.offsetParent && !(one.textContent.trim() || one.ariaLabel || one.labels?.[0]?.textContent.trim() || one.title)).map((one) => one.outerHTML)"
+            "return [...document.querySelectorAll('button, input:not([type=file]), select')].filter((one) =>"
+            " one.offsetParent && !(one.textContent.trim() || one.ariaLabel || one.labels?.[0]?.textContent.trim() ||"
+            " one.title)).map((one) => one.outerHTML)"
         )
 
 

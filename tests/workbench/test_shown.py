@@ -8,7 +8,8 @@ from typing import Any
 import pytest
 
 from hurleyoak.engine import program
-from hurleyoak.protocol.predicates import canonical_text, read_predicate
+from hurleyoak.protocol.predicatereader import read_predicate
+from hurleyoak.protocol.predicates import canonical_text
 
 from .changes import changed
 from .conftest import CHANGES, COMPILED, example_paths, needs_program

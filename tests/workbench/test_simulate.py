@@ -20,7 +20,8 @@ from hurleyoak.simulation.journals import Agents, meetings_of
 from hurleyoak.protocol.reactions import Reactions, Word
 from hurleyoak.simulation.carrying import Limits, carry_out
 from hurleyoak.simulation.simulation import AGREED, MEETINGS, TERMINAL, Simulation
-from hurleyoak.text.files import load, load_path, strict_bundle
+from hurleyoak.text.files import load, load_path
+from hurleyoak.text.loaded import strict_bundle
 from hurleyoak.protocol.nets import Net
 
 from .conftest import EXAMPLES, needs_program

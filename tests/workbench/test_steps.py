@@ -9,7 +9,9 @@ from .conftest import EXAMPLES, needs_program
 from .test_commands import pop
 
 MAJORITY = "2 A, 1 B\n0,2     A + B -> a + b\n1 A, 1 a, 1 b\n1,2     A + b -> A + a\n1 A, 2 a\n\nA 1\na 2\nterminal\n"
-AND = '1 "0/N2", 2 "1/N1"\n0,1     "1/N1" + "1/N1" -> "0/N2" + "2/f"\n2 "0/N2", 1 "2/f"\n\n0/N2 2\n2/f 1\nenabled 0 2\n'
+AND = (
+    '1 "0/N2", 2 "1/N1"\n0,1     "1/N1" + "1/N1" -> "0/N2" + "2/f"\n2 "0/N2", 1 "2/f"\n\n0/N2 2\n2/f 1\nenabled 0 2\n'
+)
 STAYS = "2 A, 1 B\n0,1     nothing changes\n2 A, 1 B\n\nA 2\nB 1\nenabled 0 2\n"
 
 

@@ -14,7 +14,7 @@ from hurleyoak.simulation.sharing import POP, Gathered
 from hurleyoak.simulation.sizes import sizes_of
 from hurleyoak.simulation.sweepjobs import Way, Job, Result, load_net, mark_of, read_job, read_result, result_of
 from hurleyoak.simulation.table import aligned, csv_text, read_csv, row_of
-from hurleyoak.faults import UsageFault
+from hurleyoak.faults import AskFault
 from hurleyoak.faults import InputFault
 
 from .conftest import EXAMPLES, needs_program
@@ -76,7 +76,7 @@ def test_sizes(words: list[str], sizes: list[dict[str, int]]) -> None:
     ],
 )
 def test_no_sizes(words: list[str]) -> None:
-    with pytest.raises(UsageFault):
+    with pytest.raises(AskFault):
         sizes_of(words)
 
 

@@ -7,7 +7,8 @@ from pathlib import Path
 import pytest
 
 from hurleyoak.faults import InputFault
-from hurleyoak.text.files import load, strict_bundle
+from hurleyoak.text.files import load
+from hurleyoak.text.loaded import strict_bundle
 from hurleyoak.protocol.nets import Leaf, Net, compact, net_of
 from hurleyoak.proof.bundles import bundle_of
 from hurleyoak.text.writer import combine_text, text_of
@@ -57,7 +58,7 @@ FAULTS = [
     (NET + "A + B -> a + \n", "4:13: expected a state, and the line ends here"),
     (NET + "A + -> a + b\n", "4:5: expected a state, found `-`"),
     (NET + "* + * -> a + b\n", "4:5: expected a state: only one of the two that meet may be `*`"),
-    (NET + "A + B -> * + b\n", "4:10: `*` on the right stands for the one on the left, and there is none"),
+    (NET + "A + B -> * + b\n", "4:10: `*` on the right is the state of the `*` on the left, and there is none"),
     ("inputs x A\nyes A\n", "1:10: expected `:` and the state in which it starts, found `A`"),
     ("inputs : A\nyes A\n", "1:8: expected a variable, as in `x: A`, found `:`"),
     ("inputs x: A x: B\nyes A\n", "1:13: variable `x` was there before"),
@@ -76,16 +77,16 @@ FAULTS = [
     (NET + "computes x - z < 0\n", "4:14: `z` is no variable; there are x, y"),
     (NET + "computes x - y\n", "4:15: expected one of `<`"),
     (NET + "computes x - y << 0\n", "4:17: expected a variable or a number, found `<`"),
-    (NET + "computes x = y % 3\n", "4:16: `%` stands on the left of the sign"),
+    (NET + "computes x = y % 3\n", "4:16: `%` belongs on the left of the sign"),
     (NET + "computes x = 1 mod 1\n", "4:20: a modulus is 2 to 200"),
     (NET + "computes x < 99999999999999\n", "4:14: the constant is at most"),
     ("leaf a\n" + NET + "leaf a\n" + NET, "5:6: a leaf `a` was there before"),
-    ("leaf a\n" + NET + "leaf b\n" + NET, "5:6: several leaves want a line `combine`"),
+    ("leaf a\n" + NET + "leaf b\n" + NET, "5:6: several leaves need a line `combine`"),
     ("combine a && c\nleaf a\n" + NET + "leaf b\n" + NET, "1:14: `c` is no leaf; there are a, b"),
     ("combine a &&\nleaf a\n" + NET, "1:13: expected a leaf's name, `!` or `(`, and the line ends here"),
     ("combine (a\nleaf a\n" + NET, "1:11: expected `)`, and the line ends here"),
-    (NET + "leaf a\n", "4:1: a file with `leaf` lines has every line of a leaf behind one"),
-    (NET + "layer A: 1\n  A + B -> a + b\n", "4:1: a proof wants a line `computes PREDICATE` before it"),
+    (NET + "leaf a\n", "4:1: in a file with `leaf` lines every line of a leaf comes after one"),
+    (NET + "layer A: 1\n  A + B -> a + b\n", "4:1: a proof needs a line `computes PREDICATE` before it"),
     (NET + "computes x < 1\nlayer A 1\n", "5:9: expected `:` and the state's weight, found `1`"),
     (NET + "computes x < 1\nlayer A: one\n", "5:10: expected a weight, found `one`"),
     (NET + "computes x < 1\nlayers\n", "5:7: expected `?`, for layers that are to be found, or `none`"),

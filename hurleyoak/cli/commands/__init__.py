@@ -7,10 +7,11 @@ from io import BytesIO, TextIOWrapper
 from typing import Callable
 
 from ...engine.program import EndedBySignal, NoProgram
-from ...faults import InputFault, UsageFault
+from ...faults import AskFault, InputFault
+from ..usage import UsageFault
 from ...saying import say
 from ...statuses import NOT_BUILT, USAGE
-from ...text.files import READ_AS
+from ...text.given import READ_AS
 from ...writing import write_whole
 from ..table import OWN, Command
 from ..table.reading import Given, read_words
@@ -20,7 +21,8 @@ JOB_WORD = "--job"  # a job of a sweep, as another machine is asked for it
 
 
 def main(arguments: list[str]) -> int:
-    """Runs the command that the first word names, and gives its exit status; all other words are for the front door."""
+    """Runs the command that the first word names, and gives its exit status; all other words are for the front
+    door."""
     word = arguments[0] if arguments else ""
     try:
         if word not in OWN:
@@ -36,7 +38,7 @@ def main(arguments: list[str]) -> int:
 
             return do_jobs(arguments[2:])
         return _run(OWN[word], arguments[1:])
-    except UsageFault as fault:
+    except AskFault as fault:
         say([f"{word}: {fault}"])
         return USAGE
     except InputFault as fault:
@@ -51,7 +53,8 @@ def main(arguments: list[str]) -> int:
 
 
 def _run(command: Command, arguments: list[str]) -> int:
-    """Runs a command of the table; what it prints goes to the file that `-o` names, whole, where it has no such option itself."""
+    """Runs a command of the table; what it prints goes to the file that `-o` names, whole, where it has no such option
+    itself."""
     module = import_module(f".{command.module}", __name__)
     run: Callable[[Given], int] = module.run
     path, words = (None, arguments) if command.writes else output_of(arguments)

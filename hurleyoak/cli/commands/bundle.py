@@ -1,7 +1,8 @@
 """`pop bundle [FILE]`: the bundle as one line of JSON."""
 from __future__ import annotations
 
-from ...text.files import load_path, strict_bundle
+from ...text.files import load_path
+from ...text.loaded import strict_bundle
 from ...statuses import DONE
 from ..table.reading import Given
 from . import warn

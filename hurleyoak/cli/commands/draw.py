@@ -6,7 +6,7 @@ from ...show.netdrawing import about_text, dot_text, draw, table_text
 from ...text.files import load_path
 from ...statuses import DONE
 from . import warn
-from ...faults import UsageFault
+from ..usage import UsageFault
 from ..table.reading import Given, takes
 from .simulate import net_title
 

@@ -1,4 +1,5 @@
-"""`pop explain [FILE] [PREDICATE]`: layers, trees and facts of a bundle, and what is missing where it is rejected; or meetings one by one."""
+"""`pop explain [FILE] [PREDICATE]`: layers, trees and facts of a bundle, and what is missing where it is rejected; or
+meetings one by one."""
 from __future__ import annotations
 
 from ...engine import program
@@ -6,7 +7,8 @@ from ...show.drawing import drawn
 from ...show.explaining import bundle_to_explain, explain
 from ...faults import InputFault
 from ...simulation.meetings import is_list, read_meetings, steps_of
-from ...text.files import load, read_text, with_predicate
+from ...text.files import load, read_text
+from ...text.given import with_predicate
 from ..table.reading import Given
 from . import warn
 from .inputs import named
@@ -24,7 +26,8 @@ def run(given: Given) -> int:
         loaded = with_predicate(loaded, given.words[1])
         if has_proof and loaded.predicate != own:
             raise InputFault(
-                f"{loaded.name} has a proof of its own predicate `{own}`, which says nothing of `{loaded.predicate}`: leave the predicate out"
+                f"{loaded.name} has a proof of its own predicate `{own}`, which says nothing of `{loaded.predicate}`:"
+                " leave the predicate out"
             )
     warn(loaded.warnings, loaded.name)
     bundle = bundle_to_explain(loaded)

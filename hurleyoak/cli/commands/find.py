@@ -1,4 +1,5 @@
-"""`pop find [FILE] [PREDICATE]`: a bundle that the program has certified, or a crowd that the protocol gets wrong, or neither."""
+"""`pop find [FILE] [PREDICATE]`: a bundle that the program has certified, or a crowd that the protocol gets wrong, or
+neither."""
 from __future__ import annotations
 
 import sys
@@ -6,12 +7,13 @@ from typing import TYPE_CHECKING, Callable, TextIO
 
 from ...engine import program
 from ...faults import InputFault
-from ...text.files import ASSUMES, STANDARD_INPUT, Loaded, LoadedBundle, read_text, strict_bundle
+from ...text.files import ASSUMES, STANDARD_INPUT, read_text
+from ...text.loaded import Loaded, LoadedBundle, strict_bundle
 from ...text.cautions import slow_pairs
 from ...proof.bundles import Bundle
 from ...writing import write_text
 from . import warn
-from ...faults import UsageFault
+from ..usage import UsageFault
 from ..table.reading import Given
 from .inputs import WITH, loaded_of, members_of, named
 
@@ -54,7 +56,10 @@ def run(given: Given) -> int:
     print(answer.first_line, file=sys.stderr)
     if answer.status != program.DONE:
         print(
-            "pop: the program rejects this proof, so it isn't shown; what is written in the file was kept (`--mend` looks for what is refused, `--anew` for all)",
+            (
+                "pop: the program rejects this proof, so it isn't shown; what is written in the file was kept"
+                " (`--mend` looks for what is refused, `--anew` for all)"
+            ),
             file=sys.stderr,
         )
         return answer.status
@@ -125,7 +130,8 @@ def put_bundle(given: Given, loaded: Loaded, bundle: Bundle, original: str) -> i
         write_text(path, made)
     elif not original and sys.stdout.isatty() and not given.has("--text"):
         print(
-            f"a certified bundle of {len(made):,} bytes: `-o FILE` writes it, `--text` shows it as a `.pop` file, `--save` puts the proof into yours"
+            f"a certified bundle of {len(made):,} bytes: `-o FILE` writes it, `--text` shows it as a `.pop` file,"
+            " `--save` puts the proof into yours"
         )
     elif not original:
         print(made, end="")
@@ -143,8 +149,11 @@ def show_flaw(loaded: Loaded, flaw: "object", write: str | None, stream: TextIO 
     if not loaded.meets(flaw.counts):
         crowd = " ".join(f"{name}={k}" for name, k in zip(loaded.net.names, flaw.counts))
         print(
-            f"not found: at {crowd} the protocol doesn't compute `{loaded.predicate}`, and the file leaves that input out by `assume`.\n"
-            "What helps: a predicate that is right there too; `refute` looks for a wrong crowd among the others",
+            (
+                f"not found: at {crowd} the protocol doesn't compute `{loaded.predicate}`, and the file leaves that"
+                " input out by `assume`.\nWhat helps: a predicate that is right there too; `refute` looks for a wrong"
+                " crowd among the others"
+            ),
             file=stream or sys.stdout,
         )
         return NOT_FOUND

@@ -3,9 +3,12 @@ from __future__ import annotations
 
 from typing import Mapping
 
-from ...faults import InputFault, UsageFault
+from ...faults import InputFault
+from ..usage import UsageFault
 from ...text.families import member_name
-from ...text.files import STANDARD_INPUT, Loaded, load, read_text, with_predicate
+from ...text.files import STANDARD_INPUT, load, read_text
+from ...text.given import with_predicate
+from ...text.loaded import Loaded
 from ...text.membersof import load_member as load_member, members_of as members_of
 from ...wholes import is_whole, whole_of
 from ..table.reading import Given
@@ -31,7 +34,8 @@ def named(path: str) -> str:
 
 
 def load_given(given: Given, path: str | None = None, text: str | None = None) -> Loaded:
-    """The input that the words name, or its text where that was read. Of a family with several members `--with` chooses one."""
+    """The input that the words name, or its text where that was read. Of a family with several members `--with`
+    chooses one."""
     path = given.path if path is None else path
     return load_read(given, path, read_text(path) if text is None else text)
 

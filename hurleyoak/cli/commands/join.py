@@ -5,11 +5,12 @@ import sys
 
 from ...engine import program
 from ...faults import InputFault
-from ...text.files import load_path, strict_bundle
+from ...text.files import load_path
+from ...text.loaded import strict_bundle
 from ...proof.joining import Lost, joined, negated
 from ...protocol.nets import FormatFault
 from ...proof.bundles import Bundle, bundle_of
-from ...faults import UsageFault
+from ..usage import UsageFault
 from ..table.reading import Given
 
 START = "--start"
@@ -36,7 +37,8 @@ def run(given: Given) -> int:
         bundle_of(made.value())
     except Lost as lost:
         raise InputFault(
-            f"the proof of one of them names `{lost}`, which isn't there any more: `bin/pop find` looks for another proof"
+            f"the proof of one of them names `{lost}`, which isn't there any more: `bin/pop find` looks for another"
+            " proof"
         ) from None
     except FormatFault as fault:
         raise InputFault(

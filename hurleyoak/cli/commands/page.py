@@ -3,7 +3,7 @@ from __future__ import annotations
 
 from pathlib import Path
 
-from ...faults import UsageFault
+from ..usage import UsageFault
 from ...serve.still import curve_value, measured, named_text, page_value, still_page, usual_counts
 from ...simulation.crowds import counts_of, split_words
 from ...simulation.curves import read_trace

@@ -1,4 +1,5 @@
-"""`pop plot -o FILE`: the picture of a journal, a trace, many runs or a sweep's table; `--text` draws it in the terminal."""
+"""`pop plot -o FILE`: the picture of a journal, a trace, many runs or a sweep's table; `--text` draws it in the
+terminal."""
 from __future__ import annotations
 
 import re
@@ -16,7 +17,7 @@ from ...simulation.table import Row, read_csv
 from ...faults import InputFault
 from ...text.files import STANDARD_INPUT, read_text
 from ...statuses import DONE
-from ...faults import UsageFault
+from ..usage import UsageFault
 from ..table.reading import Given, takes
 
 NAMELESS = "standard input"
@@ -31,7 +32,8 @@ def size_of(text: str | None) -> tuple[float, float] | None:
     found = re.fullmatch(r"([0-9]{1,2}(?:\.[0-9]+)?)x([0-9]{1,2}(?:\.[0-9]+)?)", text)
     if found is None or not all(LEAST_INCHES <= float(part) <= MOST_INCHES for part in found.groups()):
         raise UsageFault(
-            f"`--size` is followed by width and height in inches, {LEAST_INCHES:g} to {MOST_INCHES:g}, as in `7.2x4.2`, found `{text}`"
+            f"`--size` is followed by width and height in inches, {LEAST_INCHES:g} to {MOST_INCHES:g}, as in"
+            f" `7.2x4.2`, found `{text}`"
         )
     return float(found[1]), float(found[2])
 
@@ -55,7 +57,8 @@ def _shown(given: Given, text: str, name: str) -> Shown:
         curve.title = "" if name == NAMELESS else Path(name).stem
     else:
         raise InputFault(
-            f"{name}: this is no journal, no list of meetings, no trace or runs of `simulate --trace`, and no table of `sweep --csv`"
+            f"{name}: this is no journal, no list of meetings, no trace or runs of `simulate --trace`, and no table of"
+            " `sweep --csv`"
         )
     curve.title = given.text("--title") or curve.title
     return shown_of(cropped(curve, low, high) if is_part else curve, by_output, states)

@@ -5,9 +5,9 @@ import sys
 import time
 
 from ...engine import program
-from ...faults import UsageFault
+from ..usage import UsageFault
 from ...limits import AGENT_LEAST
-from ...text.files import Loaded
+from ...text.loaded import Loaded
 from ..table.reading import Given
 from .find import NOT_FOUND, show_flaw
 from .inputs import loaded_of
@@ -70,13 +70,16 @@ def run(given: Given) -> int:
         print(restless_told(loaded.net, tree, loaded.predicate, tried.restless, tried))
         return NOT_FOUND
     print(
-        f"no flaw: all inputs of up to {whole} agents beside helpers{that_meet(loaded)} were tried"
+        f"no flaw: all inputs of up to {whole} agents plus helpers{that_meet(loaded)} were tried"
         if whole or agents == 0
         else "no flaw in what was tried"
     )
     if agents is not None and whole < agents:
         print(
-            f"not all inputs of up to {agents} agents could be tried: their crowds are too many, or the time was up; --seconds gives more",
+            (
+                f"not all inputs of up to {agents} agents could be tried: their crowds are too many, or the time was"
+                " up; --seconds gives more"
+            ),
             file=sys.stderr,
         )
     return NOT_FOUND if whole < (agents or 0) or not whole and agents is None else program.DONE

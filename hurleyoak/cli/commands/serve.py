@@ -6,7 +6,7 @@ from importlib import import_module
 
 from ...faults import InputFault
 from ...statuses import DONE
-from ...faults import UsageFault
+from ..usage import UsageFault
 from ..table.reading import Given
 
 
@@ -36,5 +36,5 @@ def run(given: Given) -> int:
 
 
 def _say(address: str) -> None:
-    print(f"open {address} in a browser; who has this address may use the page. Ctrl-C ends it", flush=True)
+    print(f"open {address} in a browser; anyone with this address may use the page. Ctrl-C ends it", flush=True)
     print("the page asks the proved program; what it only measures or plays it says so", file=sys.stderr, flush=True)

@@ -11,13 +11,15 @@ from ...simulation.limits import MEETING_LIMIT
 from ...simulation.carrying import Limits, carry_out
 from ...simulation.simulation import AGREED, ENDLESS, MEETINGS, TERMINAL, Simulation, Stop
 from ...faults import InputFault
-from ...text.files import STANDARD_INPUT, Loaded, with_predicate
+from ...text.files import STANDARD_INPUT
+from ...text.given import with_predicate
+from ...text.loaded import Loaded
 from ...protocol.laws import LAWS_TOLD
 from ...protocol.predicates import value_at
 from ...statuses import DONE, UNDECIDED
 from ...writing import write_text
 from . import warn
-from ...faults import UsageFault
+from ..usage import UsageFault
 from ..table.reading import Given, takes
 from .inputs import load_given
 from ...wholes import is_whole
@@ -57,7 +59,8 @@ def many(given: Given, loaded: Loaded, counts: tuple[int, ...], limits: Limits, 
     every, runs, trace = given.number("--every"), given.whole("--runs"), given.text("--trace")
     if every <= 0 or limits.until == AGREED or limits.changes is not None:
         raise UsageFault(
-            "`--every` is followed by meetings per agent above 0; it goes with `--until terminal` or a number of meetings, and without `--changes`"
+            "`--every` is followed by meetings per agent above 0; it goes with `--until terminal` or a number of"
+            " meetings, and without `--changes`"
         )
     progress = Progress()
     made = ensemble(

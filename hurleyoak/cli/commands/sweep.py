@@ -22,7 +22,7 @@ from ...text.membersof import members_of
 from ...statuses import DONE, UNDECIDED
 from ...writing import write_text
 from . import JOB_WORD, warn
-from ...faults import UsageFault
+from ..usage import UsageFault
 from ..table.reading import Given, takes
 from .simulate import title_of
 
@@ -145,11 +145,8 @@ def run(given: Given) -> int:
     if gather is not None:
         read_folder(gather, gathered)
         if gathered.odd:
-            print(
-                f"pop: {gathered.odd} line{'' if gathered.odd == 1 else 's'} of {gather} that "
-                f"{'is no result' if gathered.odd == 1 else 'are no results'} {'is' if gathered.odd == 1 else 'are'} passed over",
-                file=sys.stderr,
-            )
+            many = "1 line that is no result" if gathered.odd == 1 else f"{gathered.odd} lines that are no results"
+            print(f"pop: {gather}: passed over {many}", file=sys.stderr)
     if given.has("--list"):
         _print_jobs(gathered.missing(jobs), given.whole("--chunk"))
         return DONE

@@ -2,7 +2,7 @@
 from __future__ import annotations
 
 from ...compiler.worths import worths_told
-from ...text.files import strict_bundle
+from ...text.loaded import strict_bundle
 from ...statuses import DONE
 from ...text.reactionfile import network_text
 from ...text.writer import head, text_of

@@ -61,7 +61,7 @@ def zsh() -> str:
             options = " ".join(map(_zsh_option, page.options))
             cases.append(
                 f"        {page.word}) _arguments {options + ' ' if options else ''}'--help[the help page]' "
-                f"'*:file:_files' ;;"
+                "'*:file:_files' ;;"
             )
     joined = "\n".join(cases)
     return f"""#compdef pop

@@ -3,7 +3,7 @@ from __future__ import annotations
 
 from ...version import RELEASE
 from ..table import OTHER, PROGRAM, STATUSES, WORKBENCH, Command
-from .showing import PROVED, UNPROVED
+from .showing import FIELD_WORDS, PROVED, UNPROVED
 
 HEAD = (
     f'.TH POP 1 "" "hurleyoak {RELEASE}" "User Commands"',
@@ -14,15 +14,23 @@ HEAD = (
     ".I COMMAND",
     "[\\fIFILE\\fR] [\\fIWORD\\fR].. [\\fIOPTION\\fR]..",
     ".SH DESCRIPTION",
-    "A population protocol is a program for a crowd of anonymous agents that meet in pairs and have to agree on a "
-    "predicate of",
-    "their input. pop checks proofs that a protocol computes its predicate for crowds of every size, and runs, "
-    "settles, plays,",
+    (
+        "A population protocol is a program for a crowd of anonymous agents that meet in pairs and have to agree on a "
+        "predicate of"
+    ),
+    (
+        "their input. pop checks proofs that a protocol computes its predicate for crowds of every size, and runs, "
+        "settles, plays,"
+    ),
     "compiles and replays protocols.",
     ".PP",
-    "A command of the program takes its input from standard input, or a file as an argument: JSON on one line or "
-    "many, or a .pop",
-    "file. What is wrong with an input is said in a sentence on standard error, beside the program's own line.",
+    (
+        "A command of the program takes its input from standard input, or a file as an argument: JSON on one line or "
+        "many, or a .pop"
+    ),
+    "file. A sentence on standard error, next to the program's own line, says what is wrong with an input.",
+    ".PP",
+    FIELD_WORDS,
 )
 
 

@@ -4,7 +4,7 @@ from __future__ import annotations
 import textwrap
 
 from ..table import OTHER, PROGRAM, STATUSES, WORKBENCH, Command
-from .showing import PROVED, UNPROVED
+from .showing import FIELD_WORDS, PROVED, UNPROVED
 
 WIDTH = 120
 HEAD = """# Commands
@@ -53,7 +53,7 @@ def statuses() -> list[str]:
 
 def reference() -> str:
     """The whole page."""
-    lines = [HEAD, *overview(), "", *statuses()]
+    lines = [HEAD, *overview(), "", *textwrap.wrap(FIELD_WORDS, WIDTH), "", *statuses()]
     for title, pages in ((PROVED, PROGRAM), (UNPROVED, WORKBENCH), ("Other words", OTHER)):
         lines += ["", f"## {title}"]
         for page in pages:

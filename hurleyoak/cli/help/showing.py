@@ -1,4 +1,5 @@
-"""Shows help on a terminal of 80 columns: the overview, the page of a command, the meaning of a line of the program."""
+"""Shows help on a terminal of 80 columns: the overview, the page of a command, the meaning of a line of the
+program."""
 from __future__ import annotations
 
 import re
@@ -14,6 +15,10 @@ COLUMN = 13
 MARGIN = 2
 PROVED = "Commands of the program, which is proved"
 UNPROVED = "Commands of the workbench, which is not proved, and shows no verdict but the program's"
+FIELD_WORDS = (
+    "Papers say configuration for a crowd, interaction for a meeting, transition for a move, silent for terminal, "
+    "and leader for a helper: see docs/reference/glossary.md."
+)
 
 
 def _rows(pages: Sequence[Command]) -> list[str]:
@@ -31,7 +36,7 @@ def overview() -> str:
     lines = [
         "pop: population protocols, checked and run",
         "",
-        "  pop check FILE               a file as an " "argument, or",
+        "  pop check FILE               a file as an argument, or",
         "  pop check < bundle.json      the program's own words over standard input",
         "",
     ]
@@ -47,13 +52,20 @@ def overview() -> str:
         "",
     ]
     half = (len(STATUSES) + 1) // 2
-    lines += ["Exit statuses:", *(f"  {left:<47} {right}" for left, right in zip(STATUSES[:half], STATUSES[half:])), ""]
+    lines += [
+        "Exit statuses:",
+        *(f"  {left:<47} {right}" for left, right in zip(STATUSES[:half], STATUSES[half:])),
+        "",
+    ]
     lines += textwrap.wrap(
-        "`pop help COMMAND` has forms, options and examples. docs/reference/formats.md has the files and "
-        "every line of the program, docs/guide/certificates.md "
-        "says how to write a proof, examples/ has protocols to start from.",
+        (
+            "`pop help COMMAND` has forms, options and examples. docs/reference/formats.md has the files and "
+            "every line of the program. docs/guide/certificates.md says how to write a proof. "
+            "examples/ has protocols to start from."
+        ),
         WIDTH,
     )
+    lines += ["", *textwrap.wrap(FIELD_WORDS, WIDTH)]
     return "\n".join(lines) + "\n"
 
 

@@ -16,9 +16,11 @@ BEHAVIOUR = (
         "simulate",
         "a run of a net by counts, for crowds of any size; no proof is needed",
         ("pop simulate [FILE] x=30 y=10 [OPTION VALUE]..",),
-        "Two different agents meet, all pairs equally likely, in a crowd of 2 to 1,000,000,000; meetings that "
-        "change nothing are skipped by a draw. Prints the end, when the last change was, and whether the "
-        "output is the predicate's value. It is one run, and nothing is proved by it.",
+        (
+            "Two different agents meet, all pairs equally likely, in a crowd of 2 to 1,000,000,000; meetings that "
+            "change nothing are skipped by a draw. Prints the end, when the last change was, and whether the "
+            "output is the predicate's value. It is one run, and nothing is proved by it."
+        ),
         (
             "pop simulate examples/majority/majority.pop x=480 y=520 --seed 1",
             "pop simulate examples/epidemic/net.json x=1 y=999999 --predicate 'x >= 1'",
@@ -29,8 +31,8 @@ BEHAVIOUR = (
             whole("--changes", "stops after N changes (10,000,000, or 10 for each agent)", None, 0, CHANGES_ASKED),
             text("--predicate", "compares the output with its value"),
             file("--trace", "keeps the crowd over time, for `pop plot`"),
-            number("--every", "many runs, each looked at after so many meetings per agent, and again", None),
-            whole("--runs", "so many of them", 20, 1, ENSEMBLE_LIMIT),
+            number("--every", "makes many runs, and looks at each after every N meetings per agent", None),
+            whole("--runs", "how many runs `--every` makes", 20, 1, ENSEMBLE_LIMIT),
             MEMBER,
         ),
         module="simulate",
@@ -40,8 +42,10 @@ BEHAVIOUR = (
         "sweep",
         "many runs over sizes and seeds: how meetings grow with the crowd",
         ("pop sweep FILE.. x=10..1000*2 [y=x-1].. [OPTION VALUE]..",),
-        "A table of the meetings to the end and to agreement, and the growth that fits them best. Each job is "
-        "a function of its words; they can be shared among processors and machines.",
+        (
+            "A table of the meetings to the end and to agreement, and the growth that fits them best. Each job is "
+            "a function of its words; they can be shared among processors and machines."
+        ),
         (
             "pop sweep examples/epidemic/epidemic.pop x=1 y=10..40*2 --runs 5",
             "pop sweep examples/flock/flock.pop x=10..40*2 --runs 3 --list | head -n 2",
@@ -59,7 +63,7 @@ BEHAVIOUR = (
             file("--hosts", "machines that share the jobs, one on a line"),
             file("--journal", "keeps each result at once, and goes on from those it has, as after a kill"),
             flag("--list", "prints the jobs, one command a line"),
-            whole("--chunk", "so many jobs in a command of `--list`", 1, 1, CHUNK_LIMIT),
+            whole("--chunk", "how many jobs a command of `--list` has", 1, 1, CHUNK_LIMIT),
             file("--gather", "makes the table of what the jobs printed; a folder too"),
             file("--csv", "writes the table, for `pop plot`"),
         ),
@@ -71,9 +75,11 @@ BEHAVIOUR = (
         "plot",
         "the picture of a journal, a trace, many runs or a sweep's table",
         ("pop plot [FILE [FILE]] -o PICTURE [OPTION VALUE]..", "pop plot [FILE] --text"),
-        "Counts over parallel time, also of meetings as `play` takes them. A sweep gives the meetings over the number of "
-        "agents, with the fitted growth. Many runs give the mean, with the band that holds eight of ten. Two curves stand "
-        "in one picture. PICTURE ends in .svg, .png or .pdf.",
+        (
+            "Counts over parallel time, also of meetings as `play` takes them. A sweep gives the meetings over the"
+            " number of agents, with the fitted growth. Many runs give the mean, with the band that holds eight of"
+            " ten. A picture may have two curves. PICTURE ends in .svg, .png or .pdf."
+        ),
         (
             "pop plot examples/replays/held.txt --text",
             "head -n 2 examples/replays/held.txt | pop run | pop plot --text --by output",
@@ -113,9 +119,11 @@ BEHAVIOUR = (
         "serve",
         "a page in the browser: write, play, prove, refute, measure, draw and compile",
         ("pop serve [FILE] [--port N]",),
-        "Prints an address to open in a browser of this machine, and answers until Ctrl-C. The page may save "
-        "FILE, and no other. What is certified on it, the program has certified. Needs python3-tornado and "
-        "libjs-codemirror.",
+        (
+            "Prints an address to open in a browser of this machine, and answers until Ctrl-C. The page may save "
+            "FILE, and no other. What is certified on it, the program has certified. Needs python3-tornado and "
+            "libjs-codemirror."
+        ),
         ("pop serve examples/majority/majority.pop", "pop serve --port 8642"),
         (whole("--port", "the port, or a free one", 0, 0, PORT_LIMIT),),
         module="serve",
@@ -125,9 +133,11 @@ BEHAVIOUR = (
         "page",
         "one file for a browser, which needs no server: text, Play, Net, certificate and curves",
         ("pop page [FILE] [x=30 y=10] [OPTION VALUE].. -o page.html",),
-        "For talks, artifacts of papers and teaching. A whole proof is shown as the program certified it when the "
-        "page was made. A run by counts is measured, of the crowd that is named or of a usual one. The page "
-        "fetches nothing.",
+        (
+            "For talks, artifacts of papers and teaching. A whole proof is shown as the program certified it when the "
+            "page was made. A run by counts is measured, of the crowd that is named or of a usual one. The page "
+            "fetches nothing."
+        ),
         (
             "pop page examples/flock/flock.pop -o page.html && grep -c certified page.html",
             "pop page examples/epidemic/epidemic.pop x=1 y=999 | head -n 5",

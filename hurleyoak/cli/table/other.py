@@ -17,8 +17,10 @@ OTHER = (
         "build",
         "proves and builds the program where it is missing or older than its sources",
         ("pop build",),
-        "Until the new program is ready, the old one is used. The first build proves everything, in about "
-        "half an hour on four processors.",
+        (
+            "Until the new program is ready, the old one is used. The first build proves everything, in about "
+            "half an hour on four processors."
+        ),
         ("pop build", "pop build && pop --version"),
         files=False,
     ),
@@ -34,8 +36,7 @@ OTHER = (
         "--unproved",
         "a command of the program before anything is proved",
         ("pop --unproved COMMAND ..",),
-        "Builds the program without a proof, and keeps it until the sources change. Nothing is proved of "
-        "its answers.",
+        "Builds the program without a proof, and keeps it until the sources change. Nothing is proved of its answers.",
         ("pop --unproved check < examples/majority/bundle.json", "pop --unproved demo 21"),
         files=False,
     ),

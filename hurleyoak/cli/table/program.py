@@ -19,9 +19,11 @@ PROGRAM = (
         "check",
         "certifies a bundle, for crowds of every size",
         ("pop check FILE [--twice]", "pop check < BUNDLE"),
-        "Prints `certified K`, where K is the bound of steps for each agent, or `rejected` and the first "
-        "part of the proof that is not valid. A bundle is a net, a predicate and a proof. FILE is a "
-        "bundle in JSON, on one line or many, or a .pop file with a proof.",
+        (
+            "Prints `certified K`, where K is the bound of steps for each agent, or `rejected` and the first "
+            "part of the proof that is not valid. A bundle is a net, a predicate and a proof. FILE is a "
+            "bundle in JSON, on one line or many, or a .pop file with a proof."
+        ),
         ("pop check examples/majority/majority.pop --twice", "pop check < examples/flock/bundle.json"),
         (flag("--twice", "asks bin/recheck too, and ends with 5 where the two differ"),),
     ),
@@ -29,18 +31,22 @@ PROGRAM = (
         "show",
         "what is certified, by names: predicate, states, moves, layers",
         ("pop show FILE", "pop show < BUNDLE"),
-        "Checks a bundle as `check` does. Below `certified K` it prints the predicate and the net that were "
-        "certified, by names: variables, states, helpers, outputs, moves, and the layers of the proof. "
-        "Whatever else `check` would print, `show` prints too.",
+        (
+            "Checks a bundle as `check` does. Below `certified K` it prints the predicate and the net that were "
+            "certified, by names: variables, states, helpers, outputs, moves, and the layers of the proof. "
+            "Whatever else `check` would print, `show` prints too."
+        ),
         ("pop show examples/majority/majority.pop", "pop show < examples/and/bundle.json | grep move"),
     ),
     Command(
         "run",
         "a run of a certified net, line by line, and its verdict",
         ("pop run FILE x=30 y=10 [OPTION N]..", "pop run [OPTION N].. < BUNDLE-AND-CROWD"),
-        "Draws pairs of agents that meet, and prints each meeting, the crowd at the end and the verdict. "
-        "If the turns are used up before that, the last line is `undecided` with two agents whose "
-        "meeting would change something; standard error says their states.",
+        (
+            "Draws pairs of agents that meet, and prints each meeting, the crowd at the end and the verdict. "
+            "If the turns are used up before that, the last line is `undecided` with two agents whose "
+            "meeting would change something; standard error says their states."
+        ),
         (
             "pop run examples/majority/majority.pop x=30 y=10 --seed 3",
             "head -n 2 examples/replays/held.txt | pop run --turns 100",
@@ -51,8 +57,10 @@ PROGRAM = (
         "watch",
         "a run on threads that an observer may stop at the crowd's end",
         ("pop watch FILE x=30 y=10 [OPTION N]..", "pop watch [OPTION N].. < BUNDLE-AND-CROWD"),
-        "As `run`, on threads; an observer looks at the crowd while they work, and stops the last round "
-        "once the crowd has come to its end.",
+        (
+            "As `run`, on threads; an observer looks at the crowd while they work, and stops the last round "
+            "once the crowd has come to its end."
+        ),
         (
             "pop watch examples/majority/majority.pop x=30 y=10 --workers 3",
             "head -n 2 examples/replays/held.txt | pop watch --workers 2",
@@ -63,8 +71,10 @@ PROGRAM = (
         "settle",
         "the moves that the proof's layers give, up to the crowd's end, and the verdict",
         ("pop settle FILE x=30 y=10", "pop settle < BUNDLE-AND-CROWD"),
-        "Makes the first move that the layers allow, again and again. It always comes to the crowd's end, "
-        "and prints the verdict.",
+        (
+            "Makes the first move that the layers allow, again and again. It always comes to the crowd's end, "
+            "and prints the verdict."
+        ),
         (
             "pop settle examples/flock/flock.pop x=5 y=2",
             "cat examples/majority/bundle.json examples/majority/crowd.txt | pop settle",
@@ -74,9 +84,11 @@ PROGRAM = (
         "play",
         "the crowd after a list of meetings",
         ("pop play FILE x=2 y=1 0,2 1,2 [--steps]", "pop play [--steps] < NET-CROWD-MEETINGS"),
-        "Plays meetings of two agents each. Agents are numbered from 0 in the order of the variables, "
-        "helpers last. Prints the crowd, and `terminal` or `enabled` with the least pair that changes. "
-        "FILE is a net or a bundle; no proof is needed.",
+        (
+            "Plays meetings of two agents each. Agents are numbered from 0 in the order of the variables, "
+            "helpers last. Prints the crowd, and `terminal` or `enabled` with the least pair that changes. "
+            "FILE is a net or a bundle; no proof is needed."
+        ),
         ("pop play examples/majority/net.json x=2 y=1 0,2 1,2 --steps", "pop play < examples/majority/play.txt"),
         (flag("--steps", "prints each crowd too, with the move between"),),
     ),
@@ -84,8 +96,10 @@ PROGRAM = (
         "eval",
         "a predicate's value at a crowd",
         ("pop eval 'x - y < 3' x=2 y=1", "pop eval FILE x=2 y=1", "pop eval < VARS-PREDICATE-CROWD"),
-        "Prints `true` or `false`. The predicate is an argument, or that of a file. `x >= y`, `3 <= x`, "
-        "`x == 3` and `x % 2 = 0` are read too; what was read is said on standard error.",
+        (
+            "Prints `true` or `false`. The predicate is an argument, or that of a file. `x >= y`, `3 <= x`, "
+            "`x == 3` and `x % 2 = 0` are read too; standard error says what was read."
+        ),
         ("pop eval 'x - y < 3' x=2", "printf 'vars x y\\nx + 2*y = 1 mod 3\\ncrowd x=20 y=10\\n' | pop eval"),
     ),
     Command(
@@ -95,10 +109,12 @@ PROGRAM = (
             "pop compile 'x - y < 1000' [--succinct | --plain | --flocks] [--helpers none]",
             "pop compile [--flocks | --succinct] < VARS-AND-PREDICATE",
         ),
-        "Prints a bundle on one line: the program's own, or a succinct one where that has fewer states, "
-        "which the program certifies before it is printed. Which leaves it has, and what its helpers mean "
-        "for a crowd, is said on standard error. The variables stand in the order in which the predicate "
-        "mentions them. A compile that fails leaves no file.",
+        (
+            "Prints a bundle on one line: the program's own, or a succinct one where that has fewer states, which the"
+            " program certifies before it is printed. Standard error says which leaves it has, and what its helpers"
+            " mean for a crowd. The variables are in the order in which the predicate mentions them. A compile that"
+            " fails leaves no file."
+        ),
         (
             "pop compile 'x - y < 1000' -o made.json && pop check made.json",
             "printf 'vars x\\nx >= 1024\\n' | pop compile --flocks",
@@ -106,24 +122,28 @@ PROGRAM = (
         (
             flag(
                 "--succinct",
-                "succinct leaves alone, with O(log s) states for constants of the size s: the program's, "
-                "and where it refuses the workbench's",
+                (
+                    "succinct leaves alone, with O(log s) states for constants of the size s: the program's, "
+                    "and where it refuses the workbench's"
+                ),
             ),
             flag("--plain", "the program's own leaves alone"),
             flag(
                 "--flocks",
                 'the program\'s leaf of k + 2 states for each comparison that says "at least 2^k", k from 1 to 39',
             ),
-            choice("--helpers", "whether helpers may stand in every input", "any", "none", "any", metavar="WHICH"),
+            choice("--helpers", "whether inputs may have helpers", "any", "none", "any", metavar="WHICH"),
         ),
     ),
     Command(
         "replay",
         "whether a journal is that of a run",
         ("pop replay FILE [--watched]", "pop replay [--watched] < JOURNAL"),
-        "Reads what `run` printed, bundle and crowd line first. Prints `holds K` where its K meetings are "
-        "a run of the certified net and its last lines are right, or `differs` and the first line that "
-        "isn't the expected one.",
+        (
+            "Reads what `run` printed, bundle and crowd line first. Prints `holds K` if its K meetings are a run of"
+            " the certified net and its last lines are right. Otherwise it prints `differs` and the first line that"
+            " isn't the expected one."
+        ),
         ("pop replay examples/replays/held.txt", "pop run examples/majority/majority.pop x=30 y=10 | pop replay"),
         (flag("--watched", "the journal is one of `watch`"),),
     ),

@@ -38,8 +38,10 @@ WORKBENCH = (
         "explain",
         "a proof, and what is missing where it is rejected",
         ("pop explain [FILE] [PREDICATE] [--all] [--html]",),
-        "Shows the program's line first, then layers, trees and facts by names, and at the node that is "
-        "refused what it lacks. Of meetings, as `play` takes them, each crowd; their page has a slider.",
+        (
+            "Shows the program's line first, then layers, trees and facts by names, and at the node that is "
+            "refused what it lacks. Of meetings, as `play` takes them, each crowd; their page has a slider."
+        ),
         ("pop explain examples/rejected/wrong-trap.json | grep '>>>'", "pop explain examples/majority/play.txt"),
         (flag("--all", "shows every fact"), flag("--html", "writes a page for a browser")),
         module="explain",
@@ -86,9 +88,14 @@ WORKBENCH = (
         "find",
         "a certified bundle of a protocol, or a crowd that it gets wrong",
         ("pop find [FILE] [PREDICATE] [OPTION VALUE]..",),
-        "Looks for layers and trees. What it prints was certified by the program; a crowd that is wrong "
-        "was played by it.",
-        ("pop find examples/epidemic/net.json 'x >= 1'", "pop find examples/majority/net.json 'y - x < 0' | pop check"),
+        (
+            "Looks for layers and trees. What it prints was certified by the program; a crowd that is wrong "
+            "was played by it."
+        ),
+        (
+            "pop find examples/epidemic/net.json 'x >= 1'",
+            "pop find examples/majority/net.json 'y - x < 0' | pop check",
+        ),
         (
             number("--seconds", "gives up after N seconds", 60),
             number("--small", "seconds for making each tree smaller; 0 takes the first tree", 4),

@@ -1,4 +1,5 @@
-"""Reads the words of a command by the table: `--seed 3`, `--seed=3`, or a beginning of an option that is no other's."""
+"""Reads the words of a command by the table: `--seed 3`, `--seed=3`, or a beginning of an option that is no
+other's."""
 from __future__ import annotations
 
 import difflib
@@ -6,7 +7,7 @@ from argparse import Action, ArgumentError, ArgumentParser, Namespace
 from dataclasses import dataclass
 from typing import Any, NoReturn, Sequence
 
-from ...faults import UsageFault
+from ..usage import UsageFault
 from ...text.files import STANDARD_INPUT
 from ...wholes import is_whole, whole_of
 from .shape import Command, Kind, Option
@@ -55,10 +56,12 @@ class Given:
 class _Once(Action):
     """An option that stands once."""
 
-    def __call__(self, parser: ArgumentParser, space: Namespace, values: Any, option_string: str | None = None) -> None:
+    def __call__(
+        self, parser: ArgumentParser, space: Namespace, values: Any, option_string: str | None = None
+    ) -> None:
         seen = space.__dict__.setdefault("seen", set())
         if self.dest in seen:
-            raise UsageFault(f"`{option_string}` stands twice")
+            raise UsageFault(f"`{option_string}` is named twice")
         seen.add(self.dest)
         setattr(space, self.dest, True if self.nargs == 0 else values)
 

@@ -20,7 +20,8 @@ class Kind(Enum):
 class Option:
     """An option. `low` and `high` are limits of a number, `usual` is what holds where it isn't given.
 
-    `metavar` is what stands for the value in forms; `short` another name, as `-o`; `repeats` says that it may be given more than once.
+    `metavar` is what stands for the value in forms; `short` another name, as `-o`; `repeats` says that it may be given
+    more than once.
     """
 
     name: str
@@ -52,7 +53,8 @@ class Option:
 
 @dataclass(frozen=True)
 class Command:
-    """A command: its module in `cli/commands` (none for the program's own words), and how many words stand beside options."""
+    """A command: its module in `cli/commands` (none for the program's own words), and how many words stand beside
+    options."""
 
     word: str
     short: str
@@ -71,7 +73,9 @@ class Command:
         return next(option for option in self.options if option.name == name)
 
 
-def whole(name: str, help: str, usual: int | None, low: int = 0, high: int | None = None, metavar: str = "N") -> Option:
+def whole(
+    name: str, help: str, usual: int | None, low: int = 0, high: int | None = None, metavar: str = "N"
+) -> Option:
     """An option with a whole number."""
     return Option(name, help, Kind.WHOLE, metavar, usual, low, high)
 

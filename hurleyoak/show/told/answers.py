@@ -15,13 +15,15 @@ from .usage import usage_told
 
 STATUSES = {
     USAGE: "the words mean no command; `pop help` has them",
-    REFUSED: "the input is malformed or over a limit; with the file as an argument, as in `pop check FILE`, the "
-    "place is shown",
+    REFUSED: (
+        "the input is malformed or over a limit; with the file as an argument, as in `pop check FILE`, the "
+        "place is shown"
+    ),
     REJECTED: "the proof isn't valid; `pop explain FILE` shows what is missing",
     UNDECIDED: "the turns are used up before the crowd's end; `--turns N` gives more",
     DIFFERS: "the journal isn't that of a run; `differs` has the first line that isn't as it has to be",
     READ_FAULT: "reading the input failed",
-    WRITE_FAULT: "writing failed: the disk is full, or nobody reads on; what was printed is cut off",
+    WRITE_FAULT: "writing failed: the disk is full, or the reader has gone; the output is cut off",
     NO_MEMORY: "out of memory; nothing was printed",
     NOT_BUILT: "the program isn't built",
 }

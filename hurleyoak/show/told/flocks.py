@@ -4,7 +4,8 @@ from __future__ import annotations
 from typing import Any
 
 from ...text.jsontext import read_json
-from ...protocol.predicates import Less, Predicate, PredicateFault, read_predicate
+from ...protocol.predicatereader import read_predicate
+from ...protocol.predicates import Less, Predicate, PredicateFault
 
 
 def is_flock(tree: Predicate) -> bool:
@@ -22,7 +23,8 @@ def flocks_told(printed: bytes) -> list[str]:
         names = value["net"]["vars"]
         leaves = [(part["pred"], len(leaf["states"])) for part, leaf in zip(value["proof"], value["net"]["leaves"])]
         return [
-            f'comparison {i}, `{text}`, says no "at least 2^k" of a sum of variables: it has a plain leaf of {states} states'
+            f'comparison {i}, `{text}`, says no "at least 2^k" of a sum of variables: it has a plain leaf of'
+            f" {states} states"
             for i, (text, states) in enumerate(leaves)
             if not is_flock(read_predicate(text, names))
         ]

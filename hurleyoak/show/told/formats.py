@@ -17,24 +17,28 @@ RULES = [
     (r"/vars", "`vars` is a list of 1 to 16 names of variables"),
     (
         r"/vars/\d+",
-        "a variable's name is a text of 1 to 32 letters, digits and `_`, no digit first; it is not `mod`, "
-        "and comes once",
+        (
+            "a variable's name is a text of 1 to 32 letters, digits and `_`, no digit first; it is not `mod`, "
+            "and comes once"
+        ),
     ),
     (r"/leaves", "`leaves` is a list of 1 to 8 protocols"),
     (
         r"/leaves/\d+",
-        "a leaf is an object with `states`, `moves`, `input` and `output`; where a leaf has more than "
-        "256 states, there are at most 4 leaves",
+        (
+            "a leaf is an object with `states`, `moves`, `input` and `output`; where a leaf has more than "
+            "256 states, there are at most 4 leaves"
+        ),
     ),
     (r"/leaves/\d+/states", "`states` is a list of 1 to 512 names"),
     (
         r"/leaves/\d+/states/\d+",
-        "a state's name is a text of 1 to 32 printed ASCII characters without blanks and " "`/`, and comes once",
+        "a state's name is a text of 1 to 32 printed ASCII characters without blanks and `/`, and comes once",
     ),
     (r"/leaves/\d+/moves", "`moves` is a list of at most 65,536 moves"),
     (
         r"/leaves/\d+/moves/\d+",
-        "a move is a list of four numbers of states, [p,q,r,s]: two agents in p and q become " "r and s",
+        "a move is a list of four numbers of states, [p,q,r,s]: two agents in p and q become r and s",
     ),
     (r"/leaves/\d+/moves/\d+/\d+", "a move names states by number{states}"),
     (r"/leaves/\d+/input", "`input` has the number of a state for each variable{inputs}"),
@@ -43,17 +47,16 @@ RULES = [
     (r"/leaves/\d+/output/\d+", "an output is `true` or `false`"),
     (
         r"/leaves/\d+/helpers",
-        "`helpers` is a list of at most 1,024 numbers of states, in format 2, as many in each " "leaf as in leaf 0",
+        "`helpers` is a list of at most 1,024 numbers of states, in format 2, as many in each leaf as in leaf 0",
     ),
     (r"/leaves/\d+/helpers/\d+", "`helpers` names states by number{states}"),
-    (
-        r"/combine",
-        "`combine` is a list of 1 to 1,024 items in postfix, after which one value is left, as " '[0,1,"and"]',
-    ),
+    (r"/combine", '`combine` is a list of 1 to 1,024 items in postfix, after which one value is left, as [0,1,"and"]'),
     (
         r"/combine/\d+",
-        'an item of `combine` is the number of a leaf{leaves}, "not", "and" or "or"; it stands '
-        "behind its operands, at most 65 deep",
+        (
+            'an item of `combine` is the number of a leaf{leaves}, "not", "and" or "or"; it comes '
+            "after its operands, at most 65 deep"
+        ),
     ),
     (r"/net", "a bundle is an object with the members `net`, `pred` and `proof`"),
     (r"/pred", "`pred` is the predicate, a text"),
@@ -69,22 +72,26 @@ RULES = [
     (r"/proof/\d+/(true|false)", "a tree is a list of at most 1,000,000 nodes"),
     (
         r"/proof/\d+/(true|false)/\d+",
-        "a node is a list: its word, and the items that the word asks for, as " '["present",0] or ["lin",[[0,1]]]',
+        'a node is a list: its word, and the items that the word asks for, as ["present",0] or ["lin",[[0,1]]]',
     ),
     (r"/proof/\d+/(true|false)/\d+/0", "a node's word is lin, residue, split, present, twin, trap, siphon or open"),
     (
         r"/proof/\d+/(true|false)/\d+/\d+",
-        "a node's item is a number, or a list of at most 65,536 terms or 512 "
-        "states; a modulus is 2 to 200, a constant at most 2^40 in size",
+        (
+            "a node's item is a number, or a list of at most 65,536 terms or 512 "
+            "states. A modulus is 2 to 200, a constant at most 2^40 in size"
+        ),
     ),
     (
         r"/proof/\d+/(true|false)/\d+/\d+/\d+",
-        "a term is a list of two numbers; states ascend strictly, each below " "2^16",
+        "a term is a list of two numbers; states ascend strictly, each below 2^16",
     ),
     (
         r"/proof/\d+/(true|false)/\d+/\d+/\d+/\d+",
-        "a term has a number below 2^32, of a variable in ascending order "
-        "or of a fact, and a factor of at most 2^40 in size",
+        (
+            "a term has a number below 2^32, of a variable in ascending order "
+            "or of a fact, and a factor of at most 2^40 in size"
+        ),
     ),
 ]
 KINDS: dict[type, str] = {
@@ -157,7 +164,7 @@ def format_told(asked: Asked, path: str, why: str) -> list[str]:
             ]
         if "net" in value and path == "/format":
             return [
-                "this is a bundle; `play` takes the net alone: `pop play FILE` with the bundle's file plays its " "net"
+                "this is a bundle; `play` takes the net alone: `pop play FILE` with the bundle's file plays its net"
             ]
     if why.startswith("pred "):
         _, text = value_at(value, path)
@@ -171,7 +178,7 @@ def format_told(asked: Asked, path: str, why: str) -> list[str]:
         return [f"{path}: {told[0]}", *told[1:]]
     below = path.removeprefix("/net") if path != "/net" else path
     rule = next(
-        (rule for pattern, rule in RULES if re.fullmatch(pattern, below)), "a net and a bundle are objects, " "`{..}`"
+        (rule for pattern, rule in RULES if re.fullmatch(pattern, below)), "a net and a bundle are objects, `{..}`"
     )
     if not path:
         return [f"{rule}; this is {KINDS.get(type(value), 'null')}", *shown_place(asked, path)]
@@ -213,14 +220,14 @@ def _reason(text: str, error: json.JSONDecodeError) -> str:
     if error.msg.startswith("Extra data"):
         crowd = text[error.pos :].lstrip().startswith("crowd")
         return (
-            "the crowd stands on the line of the bundle; a line feed belongs before `crowd`"
+            "the crowd is on the line of the bundle; put a line feed before `crowd`"
             if crowd
             else "the value ends before this"
         )
     if before.endswith(",") and (rest[:1] in "]}" or error.msg.startswith("Expecting property")) and rest[:1] != "'":
-        return "a comma stands behind the last item"
+        return "there is a comma after the last item"
     if rest[:1] == "'" or error.msg.startswith("Expecting property") and rest[:1] == "'":
-        return "texts stand in double quotes"
+        return "put texts in double quotes"
     if rest.startswith(("True", "False", "None")):
         return f"write `{'true' if rest[0] == 'T' else 'false' if rest[0] == 'F' else 'null'}`, in small letters"
     if rest[:1] in ("/", "#"):

@@ -7,7 +7,8 @@ from typing import Sequence
 from ...engine.inputs import Asked
 from .quoting import quoted, short
 
-FIRST = 2  # so many lines stand before a journal
+FIRST = 2  # how many lines come before a journal
+NO_JOURNAL = "a journal is what `run` prints"
 
 
 def journal_told(asked: Asked, number: int, why: str) -> list[str]:
@@ -17,14 +18,16 @@ def journal_told(asked: Asked, number: int, why: str) -> list[str]:
     if why == "missing":
         return [
             f"the journal ends before line {number}: "
-            f"{'a round lacks meetings, or the line `end` is missing' if number > FIRST + 1 else 'a journal is what `run` prints'}"
+            + ("a round lacks meetings, or the line `end` is missing" if number > FIRST + 1 else NO_JOURNAL)
         ]
     if why == "worker":
         workers = _workers(asked)
         return [
-            f"line {number} names a worker who isn't "
-            f"there{f' (there are workers 0 to {workers - 1})' if workers else ''} or has all its meetings of "
-            f"this round",
+            (
+                f"line {number} names a worker that doesn't "
+                f"exist{f' (there are workers 0 to {workers - 1})' if workers else ''} or has all its meetings of "
+                "this round"
+            ),
             *place,
         ]
     if why == "agents":
@@ -47,9 +50,12 @@ def _form(asked: Asked, number: int, line: str) -> str:
         if line.startswith("watch ") and not is_watched:
             return "this is a journal of `watch`: give `--watched`"
         if line.startswith("run ") and is_watched:
-            return "this is a journal of `run`: leave `--watched` away"
+            return "this is a journal of `run`: leave `--watched` out"
         return "a journal begins with `run workers W shards S turns T seed N`, within the options' limits"
-    return f"line {number} is no line that a journal goes on with here: `worker a b`, with ` *` behind it where something changed, `round` with the next number, or `end`"
+    return (
+        f"line {number} can't be here in a journal, which goes on with `worker a b`, with ` *` after it if something"
+        " changed, `round` with the next number, or `end`"
+    )
 
 
 def differs_told(asked: Asked, lines: Sequence[str]) -> list[str]:

@@ -50,7 +50,9 @@ def helpers(asked: Asked) -> int:
     """How many helpers the net has."""
     net = net_value(asked)
     leaves = net.get("leaves") if isinstance(net, dict) and net.get("format") == 2 else None
-    standing = leaves[0].get("helpers") if isinstance(leaves, list) and leaves and isinstance(leaves[0], dict) else None
+    standing = (
+        leaves[0].get("helpers") if isinstance(leaves, list) and leaves and isinstance(leaves[0], dict) else None
+    )
     return len(standing) if isinstance(standing, list) else 0
 
 
@@ -87,8 +89,7 @@ def _missing(asked: Asked, number: int) -> list[str]:
         return [f"the input is empty; `{command}` takes {' and '.join(wanted)}: {USAGE[command]}"]
     if command == "replay":
         return [
-            f"line {number} is missing; `replay` takes what `run` printed: the bundle, the crowd line and the "
-            f"journal"
+            f"line {number} is missing; `replay` takes what `run` printed: the bundle, the crowd line and the journal"
         ]
     if command in ("eval", "compile") and not asked.lines[0].startswith("vars"):
         return _vars_told(asked.lines[0])
@@ -98,8 +99,8 @@ def _missing(asked: Asked, number: int) -> list[str]:
         names = variables(asked)
         example = " ".join(f"{name}={n}" for name, n in zip(names, (30, 10, 5))) or "x=30 y=10"
         return [
-            f"the crowd is missing: give the counts behind the file, as in `pop {command} {asked.file or 'FILE'} "
-            f"{example}`, or a line `crowd {example}` behind the {wanted[0].removeprefix('a ')}"
+            f"the crowd is missing: give the counts after the file, as in `pop {command} {asked.file or 'FILE'} "
+            f"{example}`, or a line `crowd {example}` after the {wanted[0].removeprefix('a ')}"
         ]
     if number == 3 and command == "eval":
         return [f"the counts are missing: {USAGE['eval']}, or a line `crowd x=2 y=1`"]
@@ -121,10 +122,10 @@ def _extra(asked: Asked) -> list[str]:
     if command in ("check", "show") and extra.startswith("crowd"):
         return [
             f"line {number + 1} is a crowd line; `{command}` takes a bundle alone, and its answer holds for every "
-            f"crowd: `run` and `settle` take a crowd"
+            "crowd: `run` and `settle` take a crowd"
         ]
     if not extra.strip():
-        return [f"line {number + 1} is empty; `{command}` takes {' and '.join(wanted)}, and nothing behind"]
+        return [f"line {number + 1} is empty; `{command}` takes {' and '.join(wanted)}, and nothing after"]
     return [f"line {number + 1}, `{short(extra)}`, is one too many: `{command}` takes {' and '.join(wanted)}"]
 
 
@@ -155,7 +156,7 @@ def _vars_told(line: str) -> list[str]:
             )
             return [f"line 1: {what}; {rule}", *quoted(line, at)]
         if word in seen:
-            return [f"line 1: `{word}` stands twice", *quoted(line, at)]
+            return [f"line 1: `{word}` is named twice", *quoted(line, at)]
         seen.add(word)
         at += len(word)
     many = f"there are {len(seen)} names; " if len(seen) > VARIABLE_LIMIT else ""
@@ -187,8 +188,10 @@ def count_told(asked: Asked, at: int) -> list[str]:
         return [f"the counts are missing: {USAGE['play']}"]
     if at == 0:
         return [
-            f"a crowd line is `crowd` and the counts, as in `crowd x=30 y=10`; this one begins with "
-            f"`{short(word)}`{meant(word, ['crowd'])}",
+            (
+                "a crowd line is `crowd` and the counts, as in `crowd x=30 y=10`; this one begins with "
+                f"`{short(word)}`{meant(word, ['crowd'])}"
+            ),
             *where,
         ]
     if word == "":
@@ -196,8 +199,10 @@ def count_told(asked: Asked, at: int) -> list[str]:
     name, sign, count = word.partition("=")
     if not sign:
         return [
-            f"`{short(word)}` is no count: a count is a variable, `=` and a number, as in "
-            f"`{names[0] if names else 'x'}=3`",
+            (
+                f"`{short(word)}` is no count: a count is a variable, `=` and a number, as in "
+                f"`{names[0] if names else 'x'}=3`"
+            ),
             *where,
         ]
     if name not in names:
@@ -215,7 +220,7 @@ def size_told(asked: Asked, size: int) -> list[str]:
     """On `fault: size N`."""
     few = size < LEAST_AGENTS
     beside = "" if asked.lines and '"helpers"' not in asked.lines[0] else ", helpers included,"
-    end = "nobody meets in a smaller one" if few else "what `check` certifies holds for crowds of every size"
+    end = "in a smaller one no agents meet" if few else "what `check` certifies holds for every size"
     return [
         f"the crowd has {size:,} {'agent' if size == 1 else 'agents'}{beside} and `{asked.words[0]}` takes 2 to "
         f"{MOST_AGENTS:,}; {end}"
@@ -225,6 +230,5 @@ def size_told(asked: Asked, size: int) -> list[str]:
 def settle_told(takes: int) -> list[str]:
     """On `fault: settle N`."""
     return [
-        f"the proof allows {takes:,} steps for this crowd, and `settle` goes up to {MOST_TAKES:,}: give fewer "
-        f"agents"
+        f"the proof allows {takes:,} steps for this crowd, and `settle` goes up to {MOST_TAKES:,}: give fewer agents"
     ]

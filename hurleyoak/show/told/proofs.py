@@ -5,7 +5,8 @@ import re
 
 from ..explaining import Explanation, explain
 from ...faults import InputFault
-from ...text.files import LoadedBundle, load
+from ...text.files import load
+from ...text.loaded import LoadedBundle
 from ...engine.inputs import Asked
 from ...text.scanner import TextFault
 
@@ -42,7 +43,7 @@ def rejected_told(asked: Asked, line: str) -> list[str]:
     return [
         f"the proof isn't valid: {where}{general}",
         *lacks[:MOST],
-        f"`pop explain {file}` shows the whole proof; " f"`pop find {file}` looks for what is missing",
+        f"`pop explain {file}` shows the whole proof; `pop find {file}` looks for what is missing",
     ]
 
 

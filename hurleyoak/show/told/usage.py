@@ -27,9 +27,12 @@ def usage_told(words: Sequence[str], at: int, why: str, others: Sequence[str]) -
         return [_product(words)]
     word = words[at] if at < len(words) else ""
     if at == 0:
-        return [f"unknown word `{word}`{meant(word, [*PROGRAM_WORDS, *others, 'help'])}", "`pop help` has the commands"]
+        return [
+            f"unknown word `{word}`{meant(word, [*PROGRAM_WORDS, *others, 'help'])}",
+            "`pop help` has the commands",
+        ]
     if why == "twice":
-        return [f"`{word}` stands twice; each option is given at most once"]
+        return [f"`{word}` is given twice; give each option at most once"]
     if why == "value":
         before = words[at - 1]
         wrong = "is out of the limits of" if is_whole(word) else "isn't digits alone, as it has to be for"
@@ -41,7 +44,7 @@ def _missing(words: Sequence[str]) -> str:
     if not words:
         return "a command is missing; `pop help` has the commands"
     last = words[-1]
-    return f"a number is missing behind `{last}`: {LIMITS.get(last, 'each option is followed by its number')}"
+    return f"a number is missing after `{last}`: {LIMITS.get(last, 'each option is followed by its number')}"
 
 
 def _product(words: Sequence[str]) -> str:
@@ -49,7 +52,10 @@ def _product(words: Sequence[str]) -> str:
     workers, turns = whole_of(str(given.get("--workers", WORKERS_USUAL))), whole_of(
         str(given.get("--turns", TURNS_USUAL))
     )
-    return f"{workers:,} workers with {turns:,} turns each are {workers * turns:,} turns; {LIMITS['--turns']}: with {workers:,} workers give at most `--turns {2_000_000 // max(workers, 1)}`"
+    return (
+        f"{workers:,} workers with {turns:,} turns each are {workers * turns:,} turns; {LIMITS['--turns']}: with"
+        f" {workers:,} workers give at most `--turns {2_000_000 // max(workers, 1)}`"
+    )
 
 
 def _unknown(command: str, word: str) -> list[str]:
@@ -57,7 +63,7 @@ def _unknown(command: str, word: str) -> list[str]:
     own = list(NUMBERED) if command in ("run", "watch") else list(FLAGS.get(command, ()))
     name, sign, value = word.partition("=")
     if sign and name in own:
-        return [f"`{word}`: the number stands behind a blank, as in `{name} {value or 'N'}`"]
+        return [f"`{word}`: put a blank before the number, as in `{name} {value or 'N'}`"]
     for other in ("run", "compile", "replay"):
         if word in (NUMBERED if other == "run" else FLAGS[other]):
             return [
@@ -65,7 +71,7 @@ def _unknown(command: str, word: str) -> list[str]:
                 f"has {'no options' if not own else 'others: ' + ', '.join(own)}"
             ]
     if word in OUTPUT:
-        return [f"`{word}` stands behind a predicate: {USAGE['compile']}"]
+        return [f"`{word}` is after a predicate: {USAGE['compile']}"]
     if word.startswith("-") and word != "-":
         close = meant(word, [*own, "--help"])
         return [f"`{word}` is no option of `{command}`{close or '; it has ' + (', '.join(own) if own else 'none')}"]

@@ -88,7 +88,7 @@ export class Claims {
 
   hintText() {
     const { crowd, picture } = this;
-    if (!store.isRead) return "The text can't be read as it stands: this is the net before.";
+    if (!store.isRead) return "The text can't be read: this is the net before.";
     if (crowd.tooMany) return `The page draws up to ${MOST} agents. Behaviour takes up to 1,000,000,000.`;
     if (crowd.tooFew) return "A crowd has two agents or more.";
     if (picture.chosen >= 0) return `Agent ${picture.chosen} in ${crowd.agents[picture.chosen].shown} meets whom? Those that stay bright would change something.`;

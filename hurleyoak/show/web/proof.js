@@ -9,10 +9,10 @@ const OPEN_MOVES = 24;
 
 const KIND_TOLD = {
   open: "says what a predicate's value means",
-  present: "is the state empty at the end, or is somebody in it?",
+  present: "is the state empty at the end, or is an agent in it?",
   twin: "two of this state would meet, so at most one is left",
   trap: "agents in this set stay in it, unless a move leaves it",
-  siphon: "this set stays empty, unless a move enters it or somebody starts in it",
+  siphon: "this set stays empty, unless a move enters it or an agent starts in it",
   split: "is this sum above 0, is it 0, or is it below?",
   lin: "closes the branch: this sum of facts would be below 0, and it is at least 0",
   residue: "closes the branch: this sum cannot be divided so",
