@@ -43,6 +43,10 @@ class _Text:
     def __str__(self) -> str:
         return "\n".join(self.rows)
 
+    def is_empty(self) -> bool:
+        """Whether no line is left that says something."""
+        return not lines_of(str(self))
+
     def word(self, fault: TextFault) -> str | None:
         """The keyword above the place of a fault; None where no line is there."""
         at = self.owner.get(fault.line)
@@ -64,14 +68,17 @@ class _Text:
             self.rows[number - 1] = ""
         self.rows[line.number - 1] = text
 
-    def leave_out(self, fault: TextFault) -> None:
+    def leave_out(self, fault: TextFault) -> bool:
         """Takes the line of a fault away; of a proof's head with all that stands below it. Outputs stay for all
-        states."""
+        states, unless that has a fault too. False where the line was away before."""
         at = self.owner[fault.line]
         word = _word(self.lines[at])
-        self._blank(at, f"{word} *" if word in OUTPUT_WORDS else "")
+        row = self.rows[self.lines[at].number - 1]
+        every = f"{word} *" if word in OUTPUT_WORDS else ""
+        self._blank(at, "" if row == every else every)
         if word in PROOF_WORDS:
             self._leave_below(at)
+        return row != ""
 
     def _leave_below(self, at: int) -> None:
         for below in range(at + 1, len(self.lines)):
@@ -79,11 +86,13 @@ class _Text:
                 return
             self._blank(below)
 
-    def leave_part(self, fault: TextFault) -> None:
-        """Takes the part of the proof away in which the fault stands."""
+    def leave_part(self, fault: TextFault) -> bool:
+        """Takes the part of the proof away in which the fault stands. False where it was away before."""
         at = self.head(self.owner[fault.line])
+        row = self.rows[self.lines[at].number - 1]
         self._blank(at)
         self._leave_below(at)
+        return row != ""
 
     def leave(self, words: tuple[str, ...]) -> None:
         """Takes away all lines with these words, and what stands below them."""
@@ -110,9 +119,8 @@ def _faults_of_form(text: _Text) -> Iterator[tuple[TextFault, str | None]]:
     while (fault := _fault_of(read_sections, text)) is not None:
         word = text.word(fault)
         yield fault, word
-        if word is None or word in ("leaf", "states"):
+        if word is None or word in ("leaf", "states") or not text.leave_out(fault) or text.is_empty():
             return
-        text.leave_out(fault)
 
 
 def _faults_of_predicates(file: PopText, names: tuple[str, ...]) -> Iterator[TextFault]:
@@ -127,16 +135,15 @@ def _faults_of_predicates(file: PopText, names: tuple[str, ...]) -> Iterator[Tex
 
 def _faults_of_meaning(text: _Text, is_whole: bool) -> Iterator[TextFault]:
     """Lines that mean nothing: of the net, then its predicates, then its proofs, where all before is right."""
+    if text.is_empty() or any(not leaf.inputs for leaf in read_sections(str(text)).leaves):
+        return  # (what a leaf without inputs lacks is no fault of one line)
     net = _Text(str(text))
     net.leave(PROOF_WORDS + PREDICATE_WORDS)
     while (fault := _fault_of(_net, net)) is not None:
-        word = net.word(fault)
-        is_whole = False
-        if word not in (MOVE, *OUTPUT_WORDS):
-            yield fault
-            return
         yield fault
-        net.leave_out(fault)
+        is_whole = False
+        if net.word(fault) not in (MOVE, *OUTPUT_WORDS) or not net.leave_out(fault):
+            return
     file = read_sections(str(text))
     made, _ = make_net(read_sections(str(net)))
     for fault in _faults_of_predicates(file, made.names):
@@ -144,9 +151,8 @@ def _faults_of_meaning(text: _Text, is_whole: bool) -> Iterator[TextFault]:
         yield fault
     while is_whole and (fault := _fault_of(lambda one: load_pop(one, ""), text)) is not None:
         yield fault
-        if text.word(fault) not in PROOF_WORDS:
+        if text.word(fault) not in PROOF_WORDS or not text.leave_part(fault):
             return
-        text.leave_part(fault)
 
 
 def faults_in(text: str) -> list[TextFault]:

@@ -45,7 +45,7 @@ def test_growth_of_known_shapes(name: str, shape: Callable[[float], float]) -> N
     sizes = [10 * 2**i for i in range(7)]
     fits = fits_of(sizes, [shape(n) * random.uniform(0.96, 1.04) for n in sizes])
     assert fits[0].shape == name and fits[0].off < 0.15
-    assert "sizes with a median are wanted" in growth_told("it", [10.0, 20.0], [5.0, 9.0])
+    assert "sizes with a median are needed" in growth_told("it", [10.0, 20.0], [5.0, 9.0])
 
 
 @pytest.mark.parametrize(

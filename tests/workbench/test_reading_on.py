@@ -42,6 +42,9 @@ def test_a_text_that_is_read_has_none(path: Path) -> None:
         (HEAD + "A + B -> B\n" * 99 + "yes A\n", list(range(2, 2 + MOST_FAULTS))),
         ("", [1]),
         ("leaf a\ninputs x: A\nA + -> A\nyes A\nleaf a\ninputs x: A\n", [3, 5]),
+        ("i!puts x: A\nA + A -> A + A\nA + A -> A + A\nyes A\n", [1]),
+        ("A + A -> A + A\nyes A\n", [1]),
+        ("A + A\n", [1]),
     ],
 )
 def test_lines_with_faults(text: str, lines: list[int]) -> None:
