@@ -1,0 +1,7 @@
+pub mod Awake
+pub mod Escapes
+pub mod Goals
+mod GoodSets
+pub mod Possible
+pub mod Ways
+pub mod Woken

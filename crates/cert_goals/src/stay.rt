@@ -1,0 +1,74 @@
+//! Whether a set stays.
+
+ghost use Rattle.std.specs.Prelude.{◌≡◌, IfOk, MatchBool};
+ghost use Rattle.pop_net.specs.LeafModel.{IsLeaf};
+ghost use Rattle.pop_hushed.specs.Hushed.{hushed};
+ghost use Rattle.cert_goals.specs.Stays.{escapes, SleepIn};
+ghost use Rattle.cert_goals.specs.SetTests.{FindsWoken};
+ghost use Rattle.cert_goals.specs.SetSearch.{FindsLeft, fault_of_woken};
+
+use crate::escape::{escapes_of, first_unguarded};
+use crate::fault::SetFault;
+use crate::members::Members;
+use crate::sleep::first_woken;
+use pop_hushed::hushed_leaf;
+use pop_io::NoMemory;
+use pop_net::Leaf;
+use std::alloc::Global;
+
+/// Whether no move outside these that takes two states of the set wakes one of them there.
+pub(crate) fn is_settled(leaf: &Leaf, moves: &[u32], kept: &Leaf, members: &Members) -> bool
+    requires formed { IsLeaf leaf.now }
+    requires kept { kept.now ≡ hushed leaf.now moves.now }
+    ensures { MatchBool result (SleepIn leaf.now members.now moves.now) (¬ SleepIn leaf.now members.now moves.now) }
+{
+    first_woken(leaf, kept, members).is_none()
+}
+
+/// Why the set isn't guarded, if it isn't.
+pub(crate) fn left_by(
+    alloc: Global,
+    leaf: &Leaf,
+    moves: &[u32],
+    kept: &Leaf,
+    members: &Members,
+    number: u32,
+) -> Result<Option<SetFault>, NoMemory>
+    requires formed { IsLeaf leaf.now }
+    requires kept { kept.now ≡ hushed leaf.now moves.now }
+    ensures { IfOk result (FindsLeft leaf.now moves.now number members.now) }
+{
+    if let Some(t) = first_unguarded(leaf, kept, members) {
+        return Ok(Some(SetFault::Leaves {
+            set: number,
+            move_number: t,
+        }));
+    }
+    let found = woken_escape(alloc, leaf, members)?;
+    Ok(woken_fault(number, found))
+}
+
+/// The least move between two agents of the set that wakes one that leads out, and the least that it wakes.
+fn woken_escape(
+    alloc: Global,
+    leaf: &Leaf,
+    members: &Members,
+) -> Result<Option<(u32, u32)>, NoMemory>
+    requires { IsLeaf leaf.now }
+    ensures { IfOk result (FindsWoken leaf.now (hushed leaf.now (escapes leaf.now members.now)) members.now) }
+{
+    let numbers = escapes_of(alloc, leaf, members)?;
+    let awake = hushed_leaf(alloc, leaf, numbers.as_slice())?;
+    Ok(first_woken(leaf, &awake, members))
+}
+
+fn woken_fault(number: u32, found: Option<(u32, u32)>) -> Option<SetFault>
+    ensures { result ≡ fault_of_woken number found }
+{
+    let (t, u) = found?;
+    Some(SetFault::Wakes {
+        set: number,
+        move_number: t,
+        woken: u,
+    })
+}

@@ -1,0 +1,5 @@
+mod Copied
+pub mod Crowds
+pub mod Kept
+mod Marked
+pub mod Moves

@@ -1,0 +1,3 @@
+pub mod Hushed
+pub mod Laws
+pub mod Marks
