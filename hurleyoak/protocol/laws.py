@@ -19,8 +19,8 @@ class Law:
 
 PLAIN = Law()
 LAWS_TOLD = (
-    "chances (`@`) and orders (`,`) count in `simulate`, `sweep` and `draw` alone. A net has none: its runs take the"
-    " first move that matches, and a certificate speaks of every choice, not of how likely it is"
+    "chances (`@`) and orders (`,`) count in `simulate`, `sweep`, `draw` and on the page. A net has none: its runs"
+    " take the first move that matches, and a certificate speaks of every choice, not of how likely it is"
 )
 
 
