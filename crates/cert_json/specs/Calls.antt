@@ -23,8 +23,8 @@ pub record IsReadBundle (d : Data) (result : Result Bundle FormatFault) : Type 0
   pub file : IfOk result (λ bundle. IsBundleFile bundle d)
   pub no_file : IfErr result (λ fault. fault ≢ NoMemory → (bundle : Bundle) → IsBundleFile bundle d → ⊥)
 
--- the result of reading a bundle's value as the proof for this net: exactly the files of proofs within the limits are
--- read, each to its proof
+-- The result of reading a bundle's value as the proof for this net. Exactly the files of proofs within the limits are
+-- read, each to its proof.
 pub record IsReadProof (net : NetModel) (d : Data) (result : Result Proof FormatFault) : Type 0 where
   pub exact : GivesRead (λ proof. proof) result (proof_at net.variables (length net.leaves) d)
   pub within : IfOk result (IsProofWithin (length net.variables) (length net.leaves))

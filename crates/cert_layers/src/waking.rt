@@ -2,7 +2,7 @@
 //!
 //! Let t be a move of layer i that brings a state m, and u a move of an earlier layer that takes m and o. Then t
 //! wakes u unless a move of a layer before i was enabled on the states that t takes and those of u that t doesn't
-//! bring: one that takes both states of t, or, where t doesn't bring o beside m, one that takes o and a state of t.
+//! bring. It takes both states of t; or, where t doesn't bring o beside m, it takes o and a state of t.
 
 ghost use Rattle.std.specs.Prelude.{◌≡◌, ◌<◌, ◌≤◌, length, Some};
 ghost use Rattle.std.specs.List.{list_any, range_with_len};

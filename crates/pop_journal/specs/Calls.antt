@@ -19,8 +19,7 @@ use Rattle.pop_journal.specs.ReadLines.{ReadsJournal}
 use Rattle.pop_journal.specs.Expected.{journal_compared, Holds}
 use Rattle.pop_journal.specs.Standing.{Passes}
 
--- what was read of these lines, the first of which has this number, as the journal of a run of this kind for so many
--- agents
+-- What was read of these lines as the journal of a run of this kind for so many agents. The first line has this number.
 pub record IsReadFrom (lines : List (List ℕ)) (run : RunKind) (number agents : ℕ)
     (result : Result Journal (Failure JournalFault)) : Type 0 where
   pub read : ReadsJournal run agents number lines result

@@ -3,14 +3,14 @@
 ghost use Rattle.pop_random.specs.Examples.{RandomExamples};
 ghost use Rattle.pop_random.specs.Laws.{RandomMeetingsCompute, FallingIsCubic, AreUniform};
 
-/// If at most k meetings per agent can always lead to a terminal crowd and each is right, uniformly random meetings
-/// settle every crowd with the predicate's value, with probability 1. A theorem; the body is empty.
+/// Suppose at most k meetings per agent can always lead to a terminal crowd and each is right. Then uniformly random
+/// meetings settle every crowd with the predicate's value, with probability 1. A theorem; the body is empty.
 pub fn random_meetings_compute()
     ensures { RandomMeetingsCompute }
 {}
 
-/// If some height of the crowd, at most k per agent, falls by a meeting until the crowd is terminal, the expected number
-/// of meetings is at most cubic in the number of agents. A theorem; the body is empty.
+/// Suppose some height of the crowd, at most k per agent, falls by a meeting until the crowd is terminal. Then the
+/// expected number of meetings is at most cubic in the number of agents. A theorem; the body is empty.
 pub fn falling_is_cubic()
     ensures { FallingIsCubic }
 {}

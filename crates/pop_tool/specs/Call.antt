@@ -13,8 +13,8 @@ use Rattle.pop_tool.specs.Source.{HasSuffix, IsReadToEnd, words_read}
 abbrev pub AcceptsReplies : (List ℕ → Type 0) → List (List ℕ) → Option (List ℕ) → Type 0
 AcceptsReplies accepts words left = (output : Output) → IsReply words left output → accepts output.text
 
--- What a source has left and a sink holds, if they tell it, and their counts of faults, as seen by these views: a call
--- with the words finds and leaves the source and the sink like this, and ends with the status.
+-- A call with the words finds and leaves the source and the sink like this, and ends with the status. The views show
+-- what the source has left and what the sink holds, if they tell it, and their counts of faults.
 pub record IsCall {S K : Type 0} (left : S → Option (List ℕ)) (read_faults : S → ℕ) (holds : K → Option (List ℕ))
     (write_faults : K → ℕ) (words : List (List ℕ)) (source rest : S) (sink grown : K) (status : Status) : Type 0 where
   -- the sink grew by the answer to the words and to what the source had left, or as the status says

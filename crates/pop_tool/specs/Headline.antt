@@ -74,8 +74,8 @@ HasValidProof bundle = ValidProof bundle.net bundle.pred bundle.proof
 abbrev pub SaysCertified : ℕ → List ℕ → Status → Type 0
 SaysCertified bound text status = (text ≡ ended (certified_text bound)) × (status ≡ Done)
 
--- `certified` is printed, with the bound, exactly when the proof is valid; and then the net computes the predicate
--- within it, and every fair execution from an input stabilises with the predicate's value as every agent's output
+-- `certified` is printed, with the bound, exactly when the proof is valid. Then the net computes the predicate within
+-- the bound, and every fair execution from an input stabilises with the predicate's value as every agent's output.
 pub record CheckSays (bundle : Bundle) (text : List ℕ) (status : Status) : Type 0 where
   pub certified : SaysCertified (proof_bound bundle.proof) text status ↔ HasValidProof bundle
   pub right : HasValidProof bundle → IsRight bundle.net bundle.pred bundle.proof
@@ -150,8 +150,8 @@ pub record IsAllowedRun (kind : RunKind) (spec : RunSpec) : Type 0 where
   pub workers : spec.workers ≤ most_workers_of kind
   pub meetings : spec.workers * spec.turns ≤ MEETING_LIMIT
 
--- The input is a bundle whose proof is valid, a crowd line, and the text of a journal: of some rounds that are a run of
--- this kind of the bundle's net from the input crowd, with this many meetings.
+-- The input is a bundle whose proof is valid, a crowd line, and the text of a journal. The journal has rounds that are a
+-- run of this kind of the bundle's net from the input crowd, with this many meetings.
 pub record IsHeldInput (kind : RunKind) (input : List ℕ) (meetings : ℕ) : Type 0 where
   pub short : length input ≤ INPUT_LIMIT
   pub first : List ℕ

@@ -16,8 +16,8 @@ abbrev pub replay_words : RunKind → List (List ℕ)
 replay_words Whole = codes "replay" ∷ []
 replay_words Watched = codes "replay" ∷ codes "--watched" ∷ []
 
--- If a run was made, and its text isn't too long for an input, then `replay`, with `--watched` if the run was one
--- of `watch`, answers this text with `holds`.
+-- Suppose a run was made, and its text isn't too long for an input. Then `replay` answers this text with `holds`; for a
+-- run of `watch` it is given `--watched`.
 abbrev pub IsReplayHeld : Type 0
 IsReplayHeld =
     (kind : RunKind) (words : List (List ℕ)) (spec : RunSpec) (input : List ℕ) (written answer : Output)

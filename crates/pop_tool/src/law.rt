@@ -8,8 +8,8 @@ ghost use Rattle.pop_tool.specs.CompileCertified.{IsCompiledCertified};
 ghost use Rattle.pop_tool.specs.ReplayHeld.{IsReplayHeld};
 ghost use Rattle.pop_tool.specs.ShownChecked.{IsShownAsChecked};
 
-/// The output is a function of the words and the input, except for a run with two or more workers, for `watch`, and for
-/// `compile`, for which any valid proof will do. A theorem; the body is empty.
+/// The output is a function of the words and the input, except for a run with two or more workers and for `watch`. For
+/// `compile` any valid proof will do. A theorem; the body is empty.
 pub fn one_answer()
     ensures { IsOneAnswer }
 {}

@@ -2,12 +2,12 @@
 
 use serde_json::Value;
 
-/// A row: a JSON object whose members are read where they are used. It has a `name`, the `words` and the pieces of the
-/// `input` that the program is given, the pieces of the `text` that it must write, and its exit `status`, which is one
-/// of these numbers. It may say that the text `begins` with these pieces, what stands `with` them somewhere in the
-/// text, how many states each of the `leaves` of a bundle has, that each of the `prefixes` of the input, ended by a
-/// line feed, is an input of its own, and which troubles the source (`reads`) and the sink (`writes`) have. Such a
-/// member of another type counts as left out.
+/// A row: a JSON object whose members are read where they are used. It has a `name`. The program is given its `words`
+/// and the pieces of its `input`, must write the pieces of its `text`, and ends with its `status`, one of these numbers.
+///
+/// Some rows say more. The text `begins` with these pieces; those `with` them stand somewhere in it. The `leaves` of a
+/// bundle have so many states each. Each of the `prefixes` of the input, ended by a line feed, is an input of its own.
+/// The source (`reads`) and the sink (`writes`) have these troubles. A member of another type counts as left out.
 #[derive(Drop)]
 pub(crate) struct Row<'r> {
     value: &'r Value,
