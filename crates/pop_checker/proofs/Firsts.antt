@@ -11,25 +11,23 @@ use Rattle.cert_base.specs.declared.proof.LeafProof.{LeafProof}
 use Rattle.cert_base.specs.ProofLimits.{IsProofWithin}
 use Rattle.cert_base.specs.Combination.{IsNetPred}
 use Rattle.cert_base.specs.ValidProof.{ValidProof, CombinesTo}
+use Rattle.pop_checker.specs.declared.fault.Rejected.{Rejected}
 use Rattle.pop_checker.specs.declared.fault.Rejected.TheVariants.{Layers, Tree, Predicate}
-use Rattle.pop_checker.specs.declared.fault.CheckFault.{CheckFault}
-use Rattle.pop_checker.specs.declared.fault.CheckFault.TheVariants.{Rejected as Rejects, NoMemory}
-use Rattle.pop_checker.specs.Rejections.{AreValidBefore, RejectsLayers, RejectsTree, IsFirstRejected, IsCheckFault}
+use Rattle.pop_checker.specs.Rejections.{AreValidBefore, RejectsLayers, RejectsTree, IsFirstRejected, IsRejected}
 use Rattle.pop_checker.specs.Parts.{IsRightPart, AreRightBefore, IsPartFault}
 
 pub right-valid : (net : NetModel) (proof : Proof) (n : ℕ) → AreRightBefore net proof.leaves n → AreValidBefore net proof n
 right-valid net proof n right = λ i leaf part l h k. (right i leaf part l h k).valid
 
 -- the fault of the first leaf that is not right is the whole check's
-pub first_fault : (net : NetModel) (proof : Proof) (p : PredModel) (i : ℕ) (leaf : LeafModel) (part : LeafProof) (fault : CheckFault) → AreRightBefore net proof.leaves i → slice_get net.leaves i ≡ Some leaf → slice_get proof.leaves i ≡ Some part → IsPartFault leaf part i fault → IsCheckFault net p proof fault
-first_fault net proof p i leaf part (Rejects (Layers j why)) right h k is =
+pub first_fault : (net : NetModel) (proof : Proof) (p : PredModel) (i : ℕ) (leaf : LeafModel) (part : LeafProof) (fault : Rejected) → AreRightBefore net proof.leaves i → slice_get net.leaves i ≡ Some leaf → slice_get proof.leaves i ≡ Some part → IsPartFault leaf part i fault → IsRejected net p proof fault
+first_fault net proof p i leaf part (Layers j why) right h k is =
     subst (λ (n : ℕ). IsFirstRejected net proof n (λ l q. RejectsLayers l q why)) (sym is.0)
     (record { before = right-valid net proof i right; leaf = leaf; part = part; leaf_is = h; part_is = k; rejected = is.1 })
-first_fault net proof p i leaf part (Rejects (Tree j value node why)) right h k is =
+first_fault net proof p i leaf part (Tree j value node why) right h k is =
     subst (λ (n : ℕ). IsFirstRejected net proof n (λ l q. RejectsTree l q value node why)) (sym is.0)
     (record { before = right-valid net proof i right; leaf = leaf; part = part; leaf_is = h; part_is = k; rejected = is.1 })
-first_fault net proof p i leaf part (Rejects Predicate) right h k is = absurd is
-first_fault net proof p i leaf part NoMemory right h k is = tt
+first_fault net proof p i leaf part Predicate right h k is = absurd is
 
 -- one leaf more
 pub one_more : (net : NetModel) (parts : List LeafProof) (i : ℕ) (leaf : LeafModel) (part : LeafProof) → AreRightBefore net parts i → slice_get net.leaves i ≡ Some leaf → slice_get parts i ≡ Some part → IsRightPart leaf part → AreRightBefore net parts (i + 1)

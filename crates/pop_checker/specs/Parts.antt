@@ -8,9 +8,8 @@ use Rattle.cert_base.specs.declared.node.Node.{Node}
 use Rattle.cert_base.specs.ValidProof.{ValidLeafProof}
 use Rattle.cert_base.specs.Ends.{EndsRight}
 use Rattle.cert_tree.specs.Refusals.{first_refused}
+use Rattle.pop_checker.specs.declared.fault.Rejected.{Rejected}
 use Rattle.pop_checker.specs.declared.fault.Rejected.TheVariants.{Layers, Tree, Predicate}
-use Rattle.pop_checker.specs.declared.fault.CheckFault.{CheckFault}
-use Rattle.pop_checker.specs.declared.fault.CheckFault.TheVariants.{Rejected as Rejects, NoMemory}
 use Rattle.pop_checker.specs.Rejections.{RejectsLayers, RejectsTree}
 
 -- a leaf's proof is valid, and its trees leave no wrong end
@@ -26,23 +25,20 @@ AreRightBefore net parts n =
     → slice_get parts i ≡ Some part → IsRightPart leaf part
 
 -- the fault of the layers of the leaf with this number
-abbrev pub IsLayersFault : LeafModel → LeafProof → ℕ → CheckFault → Type 0
-IsLayersFault leaf part number (Rejects (Layers i why)) = (i ≡ number) × RejectsLayers leaf part why
-IsLayersFault leaf part number (Rejects (Tree i value node why)) = ⊥
-IsLayersFault leaf part number (Rejects Predicate) = ⊥
-IsLayersFault leaf part number NoMemory = Unit {0}
+abbrev pub IsLayersFault : LeafModel → LeafProof → ℕ → Rejected → Type 0
+IsLayersFault leaf part number (Layers i why) = (i ≡ number) × RejectsLayers leaf part why
+IsLayersFault leaf part number (Tree i value node why) = ⊥
+IsLayersFault leaf part number Predicate = ⊥
 
 -- the fault of the tree for a value
-abbrev pub IsValueFault : LeafModel → PredModel → Bool → List Node → ℕ → CheckFault → Type 0
-IsValueFault leaf p value nodes number (Rejects (Layers i why)) = ⊥
-IsValueFault leaf p value nodes number (Rejects (Tree i v node why)) =
+abbrev pub IsValueFault : LeafModel → PredModel → Bool → List Node → ℕ → Rejected → Type 0
+IsValueFault leaf p value nodes number (Layers i why) = ⊥
+IsValueFault leaf p value nodes number (Tree i v node why) =
     (i ≡ number) × (v ≡ value) × (first_refused leaf p value nodes ≡ Some (node, why))
-IsValueFault leaf p value nodes number (Rejects Predicate) = ⊥
-IsValueFault leaf p value nodes number NoMemory = Unit {0}
+IsValueFault leaf p value nodes number Predicate = ⊥
 
 -- the fault of a leaf's proof
-abbrev pub IsPartFault : LeafModel → LeafProof → ℕ → CheckFault → Type 0
-IsPartFault leaf part number (Rejects (Layers i why)) = (i ≡ number) × RejectsLayers leaf part why
-IsPartFault leaf part number (Rejects (Tree i value node why)) = (i ≡ number) × RejectsTree leaf part value node why
-IsPartFault leaf part number (Rejects Predicate) = ⊥
-IsPartFault leaf part number NoMemory = Unit {0}
+abbrev pub IsPartFault : LeafModel → LeafProof → ℕ → Rejected → Type 0
+IsPartFault leaf part number (Layers i why) = (i ≡ number) × RejectsLayers leaf part why
+IsPartFault leaf part number (Tree i value node why) = (i ≡ number) × RejectsTree leaf part value node why
+IsPartFault leaf part number Predicate = ⊥

@@ -15,8 +15,6 @@ use Rattle.cert_tree.specs.declared.fault.TreeWhy.{TreeWhy}
 use Rattle.cert_tree.specs.Refusals.{first_refused}
 use Rattle.pop_checker.specs.declared.fault.Rejected.{Rejected}
 use Rattle.pop_checker.specs.declared.fault.Rejected.TheVariants.{Layers, Tree, Predicate}
-use Rattle.pop_checker.specs.declared.fault.CheckFault.{CheckFault}
-use Rattle.pop_checker.specs.declared.fault.CheckFault.TheVariants.{Rejected as Rejects, NoMemory}
 
 -- each leaf before leaf n has a valid proof
 abbrev pub AreValidBefore : NetModel → Proof → ℕ → Type 0
@@ -45,13 +43,9 @@ pub record IsFirstRejected (net : NetModel) (proof : Proof) (i : ℕ) (Rejects :
   pub part_is : slice_get proof.leaves i ≡ Some part
   pub rejected : Rejects leaf part
 
+-- the first part that is not valid: leaf by leaf its layers and its two trees, and last the predicate
 abbrev pub IsRejected : NetModel → PredModel → Proof → Rejected → Type 0
 IsRejected net p proof (Layers i why) = IsFirstRejected net proof i (λ leaf part. RejectsLayers leaf part why)
 IsRejected net p proof (Tree i value node why) =
     IsFirstRejected net proof i (λ leaf part. RejectsTree leaf part value node why)
 IsRejected net p proof Predicate = AreValidBefore net proof (length net.leaves) × ¬ (CombinesTo net proof p)
-
--- the fault names the first part that is not valid: leaf by leaf its layers and its two trees, and last the predicate
-abbrev pub IsCheckFault : NetModel → PredModel → Proof → CheckFault → Type 0
-IsCheckFault net p proof (Rejects rejected) = IsRejected net p proof rejected
-IsCheckFault net p proof NoMemory = Unit {0}

@@ -1,4 +1,4 @@
-//! Why a proof is not accepted.
+//! Why a proof is not valid.
 
 use cert_layers::LayerWhy;
 use cert_tree::TreeWhy;
@@ -21,13 +21,4 @@ pub enum Rejected {
     },
     /// The leaves' predicates combine into another one.
     Predicate,
-}
-
-/// Why a net is not accepted with a proof.
-#[derive(Clone, Copy, PartialEq, Eq)]
-pub enum CheckFault {
-    /// The proof is not valid.
-    Rejected(Rejected),
-    /// Out of memory.
-    NoMemory,
 }

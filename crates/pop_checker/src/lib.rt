@@ -10,6 +10,6 @@ mod part;
 mod whole;
 
 pub use checked::Checked;
-pub use fault::{CheckFault, Rejected};
+pub use fault::Rejected;
 pub use law::{majority_computes, valid_is_right};
 pub use whole::check;

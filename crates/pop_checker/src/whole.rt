@@ -1,24 +1,26 @@
 //! The check of a whole proof.
 
-ghost use Rattle.std.specs.Prelude.{◌≡◌, length, IfOk, IfErr, OnOk};
+ghost use Rattle.std.specs.Prelude.{◌≡◌, length, IfOk, OnOk};
+ghost use Rattle.pop_io.specs.Failures.{IfFault, OnlyMemory};
 ghost use Rattle.pres_ast.specs.PredModel.{PredModel};
 ghost use Rattle.pop_net.specs.NetModel.{IsNet};
 ghost use Rattle.cert_base.specs.ProofBound.{proof_bound};
 ghost use Rattle.cert_base.specs.ProofLimits.{IsProofWithin};
-ghost use Rattle.pop_checker.specs.Rejections.{AreValidBefore, IsCheckFault};
+ghost use Rattle.pop_checker.specs.Rejections.{AreValidBefore, IsRejected};
 ghost use Rattle.pop_checker.specs.Checks.{Checks};
 ghost use Rattle.pop_checker.specs.Parts.{AreRightBefore};
 
 use crate::checked::Checked;
-use crate::fault::{CheckFault, Rejected};
+use crate::fault::Rejected;
 use crate::part::check_part;
 use cert_base::{Proof, net_pred_is};
+use pop_io::Failure;
 use pop_net::Net;
 use pres_ast::Pred;
 use std::alloc::Global;
 
 /// Whether a proof is valid for a net and a predicate (Blondin, Esparza, Jaax, Meyer 2017).
-pub fn check(alloc: Global, net: Net, pred: Pred, proof: &Proof) -> Result<Checked, CheckFault>
+pub fn check(alloc: Global, net: Net, pred: Pred, proof: &Proof) -> Result<Checked, Failure<Rejected>>
     requires variables { pred.variables ≡ length net.variables }
     requires within { IsProofWithin (length net.variables) (length net.leaves) proof.now }
     ensures { Checks net pred proof.now result }
@@ -26,20 +28,19 @@ pub fn check(alloc: Global, net: Net, pred: Pred, proof: &Proof) -> Result<Check
     let bound = check_parts(alloc, &net, proof)?;
     let same = net_pred_is(&net, proof, &pred);
     if !same {
-        return Err(CheckFault::Rejected(Rejected::Predicate));
+        return Err(Failure::Fault(Rejected::Predicate));
     }
     Ok(Checked::new(net, pred, bound))
 }
 
 /// Whether the proofs of all leaves are right, and the bound for each agent.
-fn check_parts(alloc: Global, net: &Net, proof: &Proof) -> Result<u64, CheckFault>
+fn check_parts(alloc: Global, net: &Net, proof: &Proof) -> Result<u64, Failure<Rejected>>
     requires { IsProofWithin (length net.now.variables) (length net.now.leaves) proof.now }
     ensures formed { IsNet net.now }
     ensures right { OnOk result (AreRightBefore net.now proof.now.leaves (length net.now.leaves)) }
     ensures bound { IfOk result (λ bound. bound ≡ proof_bound proof.now) }
-    ensures fault { IfErr result (λ fault. (p : PredModel) → IsCheckFault net.now p proof.now fault) }
-    ensures accepts { AreValidBefore net.now proof.now (length net.now.leaves)
-        → IfErr result (λ fault. fault ≡ CheckFault.NoMemory) }
+    ensures fault { IfFault result (λ rejected. (p : PredModel) → IsRejected net.now p proof.now rejected) }
+    ensures accepts { AreValidBefore net.now proof.now (length net.now.leaves) → OnlyMemory result }
 {
     // What the invariant says is known from here on.
     let _formed = net.leaf_count();

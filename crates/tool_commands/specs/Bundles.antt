@@ -1,13 +1,13 @@
 -- The bundle of a line, how its net starts, and what the check says of its proof.
 use Rattle.std.specs.Prelude.{◌≡◌, ℕ, List, length, Option, Some, None, Result, Ok, Err}
 use Rattle.serde_json.specs.Data.{Data}
+use Rattle.pop_io.specs.declared.failure.Failure.{Failure}
+use Rattle.pop_io.specs.declared.failure.Failure.TheVariants.{Fault, NoMemory}
 use Rattle.cert_base.specs.ProofLimits.{IsProofWithin}
 use Rattle.cert_base.specs.ValidProof.{ValidProof}
 use Rattle.cert_json.specs.Bundles.{bundle_at}
 use Rattle.cert_json.specs.declared.bundle.Bundle.{Bundle}
 use Rattle.pop_checker.specs.declared.fault.Rejected.{Rejected}
-use Rattle.pop_checker.specs.declared.fault.CheckFault.{CheckFault}
-use Rattle.pop_checker.specs.declared.fault.CheckFault.TheVariants.{Rejected as Rejects, NoMemory}
 use Rattle.pop_checker.specs.Rejections.{IsRejected}
 use Rattle.tool_texts.specs.declared.refusal.Refusal.{Refusal}
 use Rattle.tool_texts.specs.declared.refusal.Refusal.TheVariants.{NotJson}
@@ -48,6 +48,6 @@ IsJudged bundle None = ValidProof bundle.net bundle.pred bundle.proof
 IsJudged bundle (Some rejected) = IsRejected bundle.net bundle.pred bundle.proof rejected
 
 -- the rejection that a check found is reported
-abbrev pub TellsRejection : CheckFault → Result Output Refusal → Type 0
-TellsRejection (Rejects rejected) given = given ≡ Ok (rejection_output rejected)
+abbrev pub TellsRejection : Failure Rejected → Result Output Refusal → Type 0
+TellsRejection (Fault rejected) given = given ≡ Ok (rejection_output rejected)
 TellsRejection NoMemory given = ⊥

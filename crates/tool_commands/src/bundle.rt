@@ -1,17 +1,18 @@
 //! The bundle of a line, and how its net starts.
 
-ghost use Rattle.std.specs.Prelude.{◌≡◌, option_map, IfErr, IfOk, OnOk};
+ghost use Rattle.std.specs.Prelude.{◌≡◌, option_map, IfOk, OnOk};
+ghost use Rattle.pop_io.specs.Failures.{IfFault};
 ghost use Rattle.serde_json.specs.View.{view};
 ghost use Rattle.cert_base.specs.ValidProof.{ValidProof};
 ghost use Rattle.cert_base.specs.ProofBound.{proof_bound};
-ghost use Rattle.pop_checker.specs.Rejections.{IsCheckFault};
+ghost use Rattle.pop_checker.specs.Rejections.{IsRejected};
 ghost use Rattle.tool_texts.specs.Steps.{GivesStep, Obeys};
 ghost use Rattle.tool_commands.specs.Start.{IsStart};
 ghost use Rattle.tool_commands.specs.Bundles.{bundle_in, begun, IsBundleWithin, IsBundleOf, IsBegunBy, TellsRejection};
 
 use crate::start::{Start, start_of};
 use cert_json::{Bundle, read_bundle};
-use pop_checker::{CheckFault, Checked, check};
+use pop_checker::{Checked, Rejected, check};
 use pop_io::Failure;
 use serde_json::Value;
 use std::alloc::Global;
@@ -68,10 +69,10 @@ pub(crate) fn begin(alloc: Global, lines: (&[u8], &[u8])) -> Result<(Bundle, Sta
 }
 
 /// The net and the predicate of a bundle, if its proof is valid.
-pub(crate) fn check_bundle(alloc: Global, bundle: Bundle) -> Result<Checked, CheckFault>
+pub(crate) fn check_bundle(alloc: Global, bundle: Bundle) -> Result<Checked, Failure<Rejected>>
     requires { IsBundleWithin bundle }
     ensures valid { OnOk result (ValidProof bundle.net bundle.pred bundle.proof) }
-    ensures fault { IfErr result (IsCheckFault bundle.net bundle.pred bundle.proof) }
+    ensures fault { IfFault result (IsRejected bundle.net bundle.pred bundle.proof) }
     ensures kept { IfOk result (λ checked. checked
         ≡ record { net = bundle.net; pred = bundle.pred; bound = proof_bound bundle.proof }) }
 {
@@ -80,11 +81,11 @@ pub(crate) fn check_bundle(alloc: Global, bundle: Bundle) -> Result<Checked, Che
 }
 
 /// The output for a proof that is not valid.
-pub(crate) fn rejection_of(alloc: Global, fault: CheckFault) -> Result<Output, Stop>
+pub(crate) fn rejection_of(alloc: Global, fault: Failure<Rejected>) -> Result<Output, Stop>
     ensures { Obeys (TellsRejection fault) (λ output. output) result }
 {
     match fault {
-        CheckFault::Rejected(rejected) => Ok(Output::of_rejection(alloc, rejected)?),
-        CheckFault::NoMemory => Err(Failure::NoMemory),
+        Failure::Fault(rejected) => Ok(Output::of_rejection(alloc, rejected)?),
+        Failure::NoMemory => Err(Failure::NoMemory),
     }
 }

@@ -19,7 +19,7 @@ use crate::run::last_and_ending;
 use cert_base::Proof;
 use comp_net::compile;
 use pair_workers::{RunEnd, run_alone};
-use pop_checker::{CheckFault, Checked, check};
+use pop_checker::{Checked, check};
 use pop_crowd::{Crowd, CrowdFault, Meeting};
 use pop_demo::{demo_case, demo_names, demo_run};
 use pop_io::{Failure, Gate, List, NoMemory};
@@ -70,8 +70,8 @@ fn checked_of(alloc: Global, pred: Pred) -> Result<Checked, NoMemory>
     let (net, proof) = built(alloc, &pred)?;
     match check(alloc, net, pred, &proof) {
         Ok(checked) => Ok(checked),
-        Err(CheckFault::NoMemory) => Err(NoMemory),
-        Err(CheckFault::Rejected(_)) => unreachable!(),
+        Err(Failure::NoMemory) => Err(NoMemory),
+        Err(Failure::Fault(_)) => unreachable!(),
     }
 }
 

@@ -23,7 +23,7 @@ use crate::prepared::{PendingRun, Prepared, Setting};
 use crate::start::Start;
 use cert_json::Bundle;
 use pair_workers::End;
-use pop_checker::{CheckFault, Checked};
+use pop_checker::Checked;
 use pop_crowd::Crowd;
 use pop_io::{Failure, Gate, List, NoMemory};
 use pop_journal::{Last, push_end, push_run_alone};
@@ -198,10 +198,10 @@ fn prepare_begun(
             let run = pending_of(alloc, lines, setting, crowd)?;
             Ok(run)
         }
-        Err(CheckFault::Rejected(rejected)) => {
+        Err(Failure::Fault(rejected)) => {
             Ok(Prepared::Text(Output::of_rejection(alloc, rejected)?))
         }
-        Err(CheckFault::NoMemory) => Err(Failure::NoMemory),
+        Err(Failure::NoMemory) => Err(Failure::NoMemory),
     }
 }
 
