@@ -7,6 +7,7 @@ pub mod ClosingTests
 pub mod Closes
 pub mod ValidProof
 pub mod ProofLimits
+pub mod StableProof
 pub mod Combination
 pub mod Ends
 pub mod Parts

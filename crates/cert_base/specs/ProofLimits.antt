@@ -2,14 +2,15 @@
 use Rattle.std.specs.Prelude.{◌≡◌, ℕ, ◌<◌, ◌≤◌, List, [], ◌∷◌, ℤ, nat_abs, length, map, All}
 use Rattle.pop_net.specs.declared.limits.TheConstants.{MOVE_LIMIT, STATE_LIMIT}
 use Rattle.pres_ast.specs.declared.limits.TheConstants.{MODULUS_LIMIT}
-use Rattle.cert_base.specs.declared.limits.TheConstants.{LAYER_LIMIT, NODE_LIMIT, TERM_LIMIT, SIZE_LIMIT}
-use Rattle.cert_base.specs.declared.limits.TheConstants.{INDEX_COUNT, STATE_INDEX_COUNT}
+use Rattle.cert_base.specs.declared.limits.TheConstants.{LAYER_LIMIT, NODE_LIMIT, SET_LIMIT, TERM_LIMIT}
+use Rattle.cert_base.specs.declared.limits.TheConstants.{SIZE_LIMIT, INDEX_COUNT, STATE_INDEX_COUNT}
 use Rattle.cert_base.specs.declared.fact.Term.{Term}
 use Rattle.cert_base.specs.declared.layer.Layer.{Layer}
 use Rattle.cert_base.specs.declared.node.Node.{Node}
 use Rattle.cert_base.specs.declared.node.Node.TheVariants.{Linear, Residue, Split, Present, Twin, Trap, Siphon, Open}
 use Rattle.cert_base.specs.declared.proof.Proof.{Proof}
 use Rattle.cert_base.specs.declared.proof.LeafProof.{LeafProof}
+use Rattle.cert_base.specs.declared.proof.Goal.{Goal}
 
 -- no greater in size than a number of a proof may be
 abbrev pub IsSmall : ℤ → Type 0
@@ -57,6 +58,13 @@ pub record IsLeafProofWithin (variables : ℕ) (part : LeafProof) : Type 0 where
   pub layers : All IsLayerWithin part.layers
   pub on_true : AreNodesWithin part.on_true
   pub on_false : AreNodesWithin part.on_false
+
+pub record IsGoalWithin (goal : Goal) : Type 0 where
+  pub layer_count : length goal.layers ≤ LAYER_LIMIT
+  pub layers : All IsLayerWithin goal.layers
+  pub set_count : length goal.sets ≤ SET_LIMIT
+  pub sets : All IsSetWithin goal.sets
+  pub nodes : AreNodesWithin goal.nodes
 
 -- a proof over this many variables for this many leaves
 pub record IsProofWithin (variables leaves : ℕ) (proof : Proof) : Type 0 where

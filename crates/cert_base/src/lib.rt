@@ -17,6 +17,7 @@ mod open;
 mod proof;
 mod row;
 mod split;
+mod stable;
 mod terms;
 mod variables;
 
@@ -26,12 +27,13 @@ pub use fact::{Fact, Row, Term, only};
 pub use law::flow_law;
 pub use layer::Layer;
 pub use limits::{
-    FACT_LIMIT, INDEX_COUNT, LAYER_LIMIT, NODE_LIMIT, PATH_LIMIT, SIZE_LIMIT, STATE_INDEX_COUNT,
-    TERM_LIMIT,
+    FACT_LIMIT, INDEX_COUNT, LAYER_LIMIT, NODE_LIMIT, PATH_LIMIT, SET_LIMIT, SIZE_LIMIT,
+    STATE_INDEX_COUNT, TERM_LIMIT,
 };
 pub use meet::can_meet;
 pub use node::Node;
 pub use open::open_cases;
-pub use proof::{LeafProof, Proof};
+pub use proof::{Goal, LeafProof, Proof};
 pub use split::split_cases;
+pub use stable::{LeafGoals, LeafPart, StableProof};
 pub use variables::{count_variables, variable_of_input, variable_of_move, variable_of_state};

@@ -3,6 +3,9 @@
 /// The most layers of a leaf.
 pub const LAYER_LIMIT: usize = 256;
 
+/// The most sets of a goal.
+pub const SET_LIMIT: usize = 64;
+
 /// The most nodes of a tree.
 pub const NODE_LIMIT: usize = 1_000_000;
 

@@ -14,6 +14,15 @@ pub struct LeafProof {
     pub on_false: List<Node>,
 }
 
+/// What an execution is to reach from the inputs that give one value: layers of some moves, sets of states with this
+/// output that agents don't leave, and a tree in preorder. No set stands for the one of all states with this output.
+#[derive(Drop)]
+pub struct Goal {
+    pub layers: List<Layer>,
+    pub sets: List<List<u16>>,
+    pub nodes: List<Node>,
+}
+
 /// One proof for each leaf of a net.
 #[derive(Drop)]
 pub struct Proof {

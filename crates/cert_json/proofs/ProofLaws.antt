@@ -40,7 +40,7 @@ module _ (names : List (List ℕ)) where
   unfolding pred_at
   pred_again path d p is = rw (Readers.text_at-again path d is.0 is.1, meant_read names is.0 p is.2) refl
 
-  abbrev Parted : Data → LeafProof → Type 0
+  abbrev pub Parted : Data → LeafProof → Type 0
   Parted d part = IsLeafProofFile names part d × IsLeafProofWithin (length names) part
 
   leaf_of : (path : List ℕ) (d : Data) (p : PredModel) (ls : List Layer) (ts fs : List Node)
@@ -67,7 +67,7 @@ module _ (names : List (List ℕ)) where
         record { pred = pt.1; layer_count = lt.1; layers = lt.2; on_true = tt'.1; on_false = ft.1 },
       )
 
-  leaf_takes : (path : List ℕ) (d : Data) (part : LeafProof) → leaf_proof_at names path d ≡ Ok part → Parted d part
+  pub leaf_takes : (path : List ℕ) (d : Data) (part : LeafProof) → leaf_proof_at names path d ≡ Ok part → Parted d part
   unfolding leaf_proof_at
   leaf_takes path d part e =
       let made = λ (p : PredModel) (ls : List Layer) (ts fs : List Node). (let o : Result LeafProof Fault = Ok (record { pred = p; layers = ls; on_true = ts; on_false = fs }) in o) in
@@ -83,7 +83,7 @@ module _ (names : List (List ℕ)) where
       let of_parts : LeafProof = record { pred = p.0; layers = l.0; on_true = t.0; on_false = f.0 } in
       subst (Parted d) {x = of_parts} (same_ok of_parts part f.2) (leaf_of path d p.0 l.0 t.0 f.0 p.1 l.1 t.1 f.1)
 
-  leaf_again : (path : List ℕ) (d : Data) (part : LeafProof) → IsLeafProofFile names part d → IsLeafProofWithin (length names) part → leaf_proof_at names path d ≡ Ok part
+  pub leaf_again : (path : List ℕ) (d : Data) (part : LeafProof) → IsLeafProofFile names part d → IsLeafProofWithin (length names) part → leaf_proof_at names path d ≡ Ok part
   unfolding leaf_proof_at
   leaf_again path d part file fits =
       rw (

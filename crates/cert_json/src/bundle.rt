@@ -25,8 +25,8 @@ pub struct Bundle {
     pub proof: Proof,
 }
 
-/// The member `net`.
-fn net_of(alloc: Global, path: &Path<'_>, value: &Value) -> Result<Net, FormatFault>
+/// The member `net` of a bundle.
+pub fn net_of(alloc: Global, path: &Path<'_>, value: &Value) -> Result<Net, FormatFault>
     ensures { GivesRead (λ net. net) result
         (member_by (path_text path.now) (codes "net") net_at (view value.now)) }
 {

@@ -110,7 +110,7 @@ impl ReadItem for Layers {
 }
 
 /// The member `layers`: at most `LAYER_LIMIT` layers.
-pub(crate) fn layers_of(
+pub fn layers_of(
     alloc: Global,
     path: &Path<'_>,
     value: &Value,

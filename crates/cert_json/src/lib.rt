@@ -12,7 +12,10 @@ mod terms;
 mod write;
 mod write_node;
 
-pub use bundle::{Bundle, read_bundle};
+pub use bundle::{Bundle, net_of, read_bundle};
 pub use json_shape::{FormatFault, PredWhy, Why};
-pub use read::{pred_why, read_proof};
+pub use layers::layers_of;
+pub use node::nodes_of;
+pub use read::{leaf_proof_of, pred_of, pred_why, read_proof};
+pub use terms::states_of;
 pub use write::write_proof;

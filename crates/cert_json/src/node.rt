@@ -125,7 +125,7 @@ impl ReadItem for Nodes {
 }
 
 /// A member by its name: at most `NODE_LIMIT` nodes.
-pub(crate) fn nodes_of(
+pub fn nodes_of(
     alloc: Global,
     path: &Path<'_>,
     member: &str,

@@ -8,7 +8,7 @@ ghost use Rattle.json_shape.specs.Paths.{path_text};
 ghost use Rattle.json_shape.specs.Shapes.{member_by};
 ghost use Rattle.cert_base.specs.declared.proof.Proof.{Proof};
 ghost use Rattle.cert_json.specs.Calls.{IsReadProof};
-ghost use Rattle.cert_json.specs.Examined.{pred_at, why_of, leaf_proofs_at, proof_at};
+ghost use Rattle.cert_json.specs.Examined.{pred_at, why_of, leaf_proof_at, leaf_proofs_at, proof_at};
 
 use crate::layers::layers_of;
 use crate::node::nodes_of;
@@ -59,7 +59,7 @@ fn pred_from(
 }
 
 /// The member `pred`: a predicate over these names.
-pub(crate) fn pred_of(
+pub fn pred_of(
     alloc: Global,
     path: &Path<'_>,
     names: &List<Text>,
@@ -74,6 +74,32 @@ pub(crate) fn pred_of(
 {
     let pred = member_of(alloc, path, "pred", value)?;
     pred_from(alloc, &Path::Member(path, "pred"), names, pred)
+}
+
+/// The proof of a leaf over these names.
+#[tactic(auto, unfolding(crate::specs::Examined::leaf_proof_at))]
+pub fn leaf_proof_of(
+    alloc: Global,
+    path: &Path<'_>,
+    names: &List<Text>,
+    value: &Value,
+) -> Result<LeafProof, FormatFault>
+    requires some { 1 ≤ length names.now }
+    requires few { length names.now ≤ VARIABLE_LIMIT }
+    requires names { AreNames variable_name names.now }
+    ensures { GivesRead (λ part. part) result (leaf_proof_at names.now (path_text path.now) (view value.now)) }
+{
+    object_of(alloc, path, value)?;
+    let pred = pred_of(alloc, path, names, value)?;
+    let layers = layers_of(alloc, path, value)?;
+    let on_true = nodes_of(alloc, path, "true", value)?;
+    let on_false = nodes_of(alloc, path, "false", value)?;
+    Ok(LeafProof {
+        pred,
+        layers,
+        on_true,
+        on_false,
+    })
 }
 
 /// Proofs of leaves over these names.
@@ -95,7 +121,6 @@ impl<'a> ReadItem for LeafProofs<'a> {
 
     ghost item_at = { λ reader. leaf_proof_item reader.names.now };
 
-    #[tactic(auto, unfolding(crate::specs::Examined::leaf_proof_at))]
     fn read(
         &self,
         alloc: Global,
@@ -103,17 +128,7 @@ impl<'a> ReadItem for LeafProofs<'a> {
         _found: &[LeafProof],
         value: &Value,
     ) -> Result<LeafProof, FormatFault> {
-        object_of(alloc, path, value)?;
-        let pred = pred_of(alloc, path, self.names, value)?;
-        let layers = layers_of(alloc, path, value)?;
-        let on_true = nodes_of(alloc, path, "true", value)?;
-        let on_false = nodes_of(alloc, path, "false", value)?;
-        Ok(LeafProof {
-            pred,
-            layers,
-            on_true,
-            on_false,
-        })
+        leaf_proof_of(alloc, path, self.names, value)
     }
 }
 

@@ -186,7 +186,7 @@ impl ReadItem for States {
 }
 
 /// At most `STATE_LIMIT` numbers of states that ascend.
-pub(crate) fn states_of(
+pub fn states_of(
     alloc: Global,
     path: &Path<'_>,
     value: &Value,

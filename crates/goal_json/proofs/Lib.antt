@@ -1,0 +1,4 @@
+pub mod GoalLaws
+pub mod Leaves
+pub mod PartLaws
+pub mod StableLaws

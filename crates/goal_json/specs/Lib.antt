@@ -1,0 +1,5 @@
+pub mod PartFile
+pub mod StableFile
+pub mod Examined
+pub mod Bundles
+pub mod Calls
