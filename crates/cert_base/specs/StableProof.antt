@@ -2,13 +2,13 @@
 use Rattle.std.specs.Prelude.{◌≡◌, ℕ, length, All}
 use Rattle.pres_ast.specs.PredModel.{PredModel}
 use Rattle.cert_base.specs.declared.stable.LeafGoals.{LeafGoals}
-use Rattle.cert_base.specs.declared.stable.LeafPart.{LeafPart}
-use Rattle.cert_base.specs.declared.stable.LeafPart.TheVariants.{Silent, Stable}
+use Rattle.cert_base.specs.declared.stable.StablePart.{StablePart}
+use Rattle.cert_base.specs.declared.stable.StablePart.TheVariants.{Silent, Stable}
 use Rattle.cert_base.specs.declared.stable.StableProof.{StableProof}
 use Rattle.cert_base.specs.ProofLimits.{IsLeafProofWithin, IsGoalWithin}
 
 -- the predicate of a leaf
-abbrev pub pred_of_part : LeafPart → PredModel
+abbrev pub pred_of_part : StablePart → PredModel
 pred_of_part (Silent part) = part.pred
 pred_of_part (Stable goals) = goals.pred
 
@@ -18,7 +18,7 @@ pub record AreGoalsWithin (variables : ℕ) (goals : LeafGoals) : Type 0 where
   pub on_true : IsGoalWithin goals.on_true
   pub on_false : IsGoalWithin goals.on_false
 
-abbrev pub IsPartWithin : ℕ → LeafPart → Type 0
+abbrev pub IsPartWithin : ℕ → StablePart → Type 0
 IsPartWithin variables (Silent part) = IsLeafProofWithin variables part
 IsPartWithin variables (Stable goals) = AreGoalsWithin variables goals
 

@@ -35,5 +35,5 @@ pub use node::Node;
 pub use open::open_cases;
 pub use proof::{Goal, LeafProof, Proof};
 pub use split::split_cases;
-pub use stable::{LeafGoals, LeafPart, StableProof};
+pub use stable::{LeafGoals, StablePart, StableProof};
 pub use variables::{count_variables, variable_of_input, variable_of_move, variable_of_state};

@@ -14,7 +14,7 @@ pub struct LeafGoals {
 
 /// A leaf's part of a proof: it falls silent, or it comes to goals.
 #[derive(Drop)]
-pub enum LeafPart {
+pub enum StablePart {
     Silent(LeafProof),
     Stable(LeafGoals),
 }
@@ -22,5 +22,5 @@ pub enum LeafPart {
 /// One part for each leaf of a net.
 #[derive(Drop)]
 pub struct StableProof {
-    pub leaves: List<LeafPart>,
+    pub leaves: List<StablePart>,
 }

@@ -73,7 +73,7 @@ module _ (names : List (List ℕ)) (one : 1 ≤ length names) (most : length nam
       by_length true = tt
       by_length false = run_fits (length text) (tokens_of text) start surface (omega arith) start_sound
 
-  abbrev IsOver : PredModel → Type 0
+  abbrev pub IsOver : PredModel → Type 0
   IsOver p = (p.variables ≡ length names) × HasAtoms p.variables p.tree
 
   over_fits : (r : Result PredTree ReadPred) → Fits r → IfOk (over_names (length names) r) IsOver
@@ -85,7 +85,7 @@ module _ (names : List (List ℕ)) (one : 1 ≤ length names) (most : length nam
 
   -- ---- the predicates of a proof
 
-  text_over : (p : PredModel) (d : Data) → IsPredText names p d → IsOver p
+  pub text_over : (p : PredModel) (d : Data) → IsPredText names p d → IsOver p
   text_over p d is = subst (λ (r : Result PredModel ReadPred). IfOk r IsOver) (meant_read names is.0 p is.2) (read_fits is.0)
 
   parts_over : (parts : List LeafProof) (ds : List Data) → AreItems (IsLeafProofFile names) parts ds

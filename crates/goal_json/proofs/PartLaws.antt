@@ -12,8 +12,8 @@ use Rattle.pres_ast.specs.PredModel.{PredModel}
 use Rattle.cert_base.specs.declared.proof.Goal.{Goal}
 use Rattle.cert_base.specs.declared.proof.LeafProof.{LeafProof}
 use Rattle.cert_base.specs.declared.stable.LeafGoals.{LeafGoals}
-use Rattle.cert_base.specs.declared.stable.LeafPart.{LeafPart}
-use Rattle.cert_base.specs.declared.stable.LeafPart.TheVariants.{Silent, Stable}
+use Rattle.cert_base.specs.declared.stable.StablePart.{StablePart}
+use Rattle.cert_base.specs.declared.stable.StablePart.TheVariants.{Silent, Stable}
 use Rattle.cert_base.specs.declared.stable.StableProof.{StableProof}
 use Rattle.cert_base.specs.StableProof.{AreGoalsWithin, IsPartWithin, IsStableProofWithin}
 use Rattle.cert_json.specs.Examined.{pred_at, leaf_proof_at}
@@ -58,30 +58,30 @@ module _ (names : List (List ℕ)) where
         both_again (member_path path (codes "goals")) file.goals.0 goals.on_true goals.on_false file.goals.2 fits.on_true fits.on_false,
       ) refl
 
-  abbrev Parted : Data → LeafPart → Type 0
+  abbrev Parted : Data → StablePart → Type 0
   Parted d part = IsPartFile names part d × IsPartWithin (length names) part
 
-  stable_takes : (path : List ℕ) (d : Data) (part : LeafPart) → has_goals_in_place d ≡ true → stable_part_at names path d ≡ Ok part → Parted d part
+  stable_takes : (path : List ℕ) (d : Data) (part : StablePart) → has_goals_in_place d ≡ true → stable_part_at names path d ≡ Ok part → Parted d part
   stable_takes path d part has e =
-      let a = bind_ok (leaf_goals_at names path d) (λ goals. (let o : Result LeafPart Fault = Ok (Stable goals) in o)) part e in
+      let a = bind_ok (leaf_goals_at names path d) (λ goals. (let o : Result StablePart Fault = Ok (Stable goals) in o)) part e in
       let t = goals_takes path d a.0 a.1 in
       subst (Parted d) {x = Stable a.0} (same_ok (Stable a.0) part a.2) ((has, t.0), t.1)
 
-  silent_takes : (path : List ℕ) (d : Data) (part : LeafPart) → silent_part_at names path d ≡ Ok part → Parted d part
+  silent_takes : (path : List ℕ) (d : Data) (part : StablePart) → silent_part_at names path d ≡ Ok part → Parted d part
   silent_takes path d part e =
-      let a = bind_ok (leaf_proof_at names path d) (λ p. (let o : Result LeafPart Fault = Ok (Silent p) in o)) part e in
+      let a = bind_ok (leaf_proof_at names path d) (λ p. (let o : Result StablePart Fault = Ok (Silent p) in o)) part e in
       let t = leaf_takes names path d a.0 a.1 in
       subst (Parted d) {x = Silent a.0} (same_ok (Silent a.0) part a.2) (t.0, t.1)
 
-  either_takes : (b : Bool) (path : List ℕ) (d : Data) (part : LeafPart) → has_goals_in_place d ≡ b → cond b (stable_part_at names path d) (silent_part_at names path d) ≡ Ok part → Parted d part
+  either_takes : (b : Bool) (path : List ℕ) (d : Data) (part : StablePart) → has_goals_in_place d ≡ b → cond b (stable_part_at names path d) (silent_part_at names path d) ≡ Ok part → Parted d part
   either_takes true path d part has e = stable_takes path d part has e
   either_takes false path d part has e = silent_takes path d part e
 
-  part_takes : (path : List ℕ) (d : Data) (part : LeafPart) → part_at names path d ≡ Ok part → Parted d part
+  part_takes : (path : List ℕ) (d : Data) (part : StablePart) → part_at names path d ≡ Ok part → Parted d part
   unfolding part_at
   part_takes path d part e = either_takes (has_goals_in_place d) path d part refl e
 
-  part_again : (path : List ℕ) (d : Data) (part : LeafPart) → IsPartFile names part d → IsPartWithin (length names) part → part_at names path d ≡ Ok part
+  part_again : (path : List ℕ) (d : Data) (part : StablePart) → IsPartFile names part d → IsPartWithin (length names) part → part_at names path d ≡ Ok part
   unfolding part_at
   part_again path d (Stable goals) file fits = rw (file.0, goals_again path d goals file.1 fits) refl
   part_again path d (Silent part) file fits = rw (file.layers.1, leaf_again names path d part file fits) refl
@@ -91,10 +91,10 @@ module _ (names : List (List ℕ)) where
   unfolding stable_proof_at each_at
   proof_takes leaves d proof e =
       let path = member_path [] (codes "proof") in
-      let made = λ (parts : List LeafPart). (let o : Result StableProof Fault = Ok (record { leaves = parts }) in o) in
+      let made = λ (parts : List StablePart). (let o : Result StableProof Fault = Ok (record { leaves = parts }) in o) in
       let a = bind_ok (member_by [] (codes "proof") (parts_at names leaves) d) (λ parts. made parts) proof e in
       let m = bind_ok (member_at [] (codes "proof") d) (λ v. parts_at names leaves path v) a.0 a.1 in
-      let taken = λ (found : List LeafPart) (i : ℕ) (x : Data) (part : LeafPart) (is : item_by (part_item names) path found i x ≡ Ok part). part_takes (item_path path i) x part is in
+      let taken = λ (found : List StablePart) (i : ℕ) (x : Data) (part : StablePart) (is : item_by (part_item names) path found i x ≡ Ok part). part_takes (item_path path i) x part is in
       let r = Readers.list-takes (item_by (part_item names) path) (IsPartFile names) (λ _ part. IsPartWithin (length names) part) taken path leaves leaves m.0 a.0 m.2 in
       let of_parts : StableProof = record { leaves = a.0 } in
       subst (λ (q : StableProof). HasMember (codes "proof") (IsList (IsPartFile names) q.leaves) d × IsStableProofWithin (length names) leaves q) {x = of_parts} (same_ok of_parts proof a.2) (

@@ -22,7 +22,7 @@ use Rattle.goal_json.specs.Examined.{stable_proof_at}
 use Rattle.goal_json.specs.Bundles.{stable_claim_at, stable_bundle_at}
 use Rattle.goal_json.proofs.PartLaws.{proof_takes, proof_again}
 
-bundle_takes : (d : Data) (bundle : StableBundle) → stable_bundle_at d ≡ Ok bundle → IsStableFile bundle d
+pub bundle_takes : (d : Data) (bundle : StableBundle) → stable_bundle_at d ≡ Ok bundle → IsStableFile bundle d
 unfolding stable_bundle_at stable_claim_at
 bundle_takes d bundle e =
     let net_path = member_path [] (codes "net") in
@@ -47,7 +47,7 @@ bundle_takes d bundle e =
       within = taken.1;
     })
 
-bundle_again : (d : Data) (bundle : StableBundle) → IsStableFile bundle d → stable_bundle_at d ≡ Ok bundle
+pub bundle_again : (d : Data) (bundle : StableBundle) → IsStableFile bundle d → stable_bundle_at d ≡ Ok bundle
 unfolding stable_bundle_at stable_claim_at
 bundle_again d bundle file =
     let net : NetModel = bundle.net in

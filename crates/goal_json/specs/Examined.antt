@@ -9,8 +9,8 @@ use Rattle.json_shape.specs.Shapes.{object_at, member_by, pair_at, each_at}
 use Rattle.cert_base.specs.declared.limits.TheConstants.{SET_LIMIT}
 use Rattle.cert_base.specs.declared.proof.Goal.{Goal}
 use Rattle.cert_base.specs.declared.stable.LeafGoals.{LeafGoals}
-use Rattle.cert_base.specs.declared.stable.LeafPart.{LeafPart}
-use Rattle.cert_base.specs.declared.stable.LeafPart.TheVariants.{Silent, Stable}
+use Rattle.cert_base.specs.declared.stable.StablePart.{StablePart}
+use Rattle.cert_base.specs.declared.stable.StablePart.TheVariants.{Silent, Stable}
 use Rattle.cert_base.specs.declared.stable.StableProof.{StableProof}
 use Rattle.cert_json.specs.Examined.{pred_at, set_states_at, nodes_at, layers_at, leaf_proof_at}
 use Rattle.goal_json.specs.PartFile.{has_goals_in_place}
@@ -49,24 +49,24 @@ leaf_goals_at names path d = do
   goals ← member_by path (codes "goals") both_goals_at d
   Ok (record { pred = p; on_true = goals.0; on_false = goals.1 })
 
-abbrev pub stable_part_at : List (List ℕ) → List ℕ → Data → Result LeafPart Fault
+abbrev pub stable_part_at : List (List ℕ) → List ℕ → Data → Result StablePart Fault
 stable_part_at names path d = do
   goals ← leaf_goals_at names path d
   Ok (Stable goals)
 
-abbrev pub silent_part_at : List (List ℕ) → List ℕ → Data → Result LeafPart Fault
+abbrev pub silent_part_at : List (List ℕ) → List ℕ → Data → Result StablePart Fault
 silent_part_at names path d = do
   part ← leaf_proof_at names path d
   Ok (Silent part)
 
-unfoldable pub part_at : List (List ℕ) → List ℕ → Data → Result LeafPart Fault
+unfoldable pub part_at : List (List ℕ) → List ℕ → Data → Result StablePart Fault
 part_at names path d = if has_goals_in_place d then stable_part_at names path d else silent_part_at names path d
 
-abbrev pub part_item : List (List ℕ) → List ℕ → List LeafPart → Data → Result LeafPart Fault
+abbrev pub part_item : List (List ℕ) → List ℕ → List StablePart → Data → Result StablePart Fault
 part_item names path found d = part_at names path d
 
 -- one part for each leaf; a wrong number of them is refused before any is examined
-abbrev pub parts_at : List (List ℕ) → ℕ → List ℕ → Data → Result (List LeafPart) Fault
+abbrev pub parts_at : List (List ℕ) → ℕ → List ℕ → Data → Result (List StablePart) Fault
 parts_at names leaves path d = each_at (part_item names) path leaves leaves d
 
 -- the member `proof` of a bundle, over these names and for this many leaves

@@ -5,8 +5,8 @@ use Rattle.serde_json.specs.Find.{get}
 use Rattle.json_shape.specs.Parts.{IsNumber, HasItems, AreBoth, HasMember, IsList}
 use Rattle.cert_base.specs.declared.proof.Goal.{Goal}
 use Rattle.cert_base.specs.declared.stable.LeafGoals.{LeafGoals}
-use Rattle.cert_base.specs.declared.stable.LeafPart.{LeafPart}
-use Rattle.cert_base.specs.declared.stable.LeafPart.TheVariants.{Silent, Stable}
+use Rattle.cert_base.specs.declared.stable.StablePart.{StablePart}
+use Rattle.cert_base.specs.declared.stable.StablePart.TheVariants.{Silent, Stable}
 use Rattle.cert_json.specs.ProofFile.{IsPredText, IsNode, IsLayerFile, IsLeafProofFile}
 
 -- the sets of a goal, none where the member is missing
@@ -33,6 +33,6 @@ abbrev pub has_goals_in_place : Data → Bool
 has_goals_in_place d = not (is_there (get (codes "layers") d)) && is_there (get (codes "goals") d)
 
 -- a leaf's part of a proof over these names: with layers it is that of a leaf that falls silent
-abbrev pub IsPartFile : List (List ℕ) → LeafPart → Data → Type 0
+abbrev pub IsPartFile : List (List ℕ) → StablePart → Data → Type 0
 IsPartFile names (Silent part) d = IsLeafProofFile names part d
 IsPartFile names (Stable goals) d = (has_goals_in_place d ≡ true) × AreGoalsFile names goals d

@@ -10,7 +10,7 @@ ghost use Rattle.goal_json.specs.PartFile.{has_goals_in_place};
 ghost use Rattle.goal_json.specs.Examined.{leaf_goals_at, part_at, parts_at, stable_proof_at};
 
 use crate::goal::goals_of;
-use cert_base::{LeafGoals, LeafPart, StableProof};
+use cert_base::{LeafGoals, StablePart, StableProof};
 use cert_json::{leaf_proof_of, pred_of};
 use json_shape::{FormatFault, Path, ReadItem, each_in, object_of};
 use pop_io::{List, Text, VARIABLE_LIMIT};
@@ -56,7 +56,7 @@ fn part_of(
     path: &Path<'_>,
     names: &List<Text>,
     value: &Value,
-) -> Result<LeafPart, FormatFault>
+) -> Result<StablePart, FormatFault>
     requires some { 1 ≤ length names.now }
     requires few { length names.now ≤ VARIABLE_LIMIT }
     requires names { AreNames variable_name names.now }
@@ -64,10 +64,10 @@ fn part_of(
 {
     if has_goals_in_place(value) {
         let goals = leaf_goals_of(alloc, path, names, value)?;
-        return Ok(LeafPart::Stable(goals));
+        return Ok(StablePart::Stable(goals));
     }
     let part = leaf_proof_of(alloc, path, names, value)?;
-    Ok(LeafPart::Silent(part))
+    Ok(StablePart::Silent(part))
 }
 
 /// Parts of leaves over these names.
@@ -82,7 +82,7 @@ impl<'a> ReadItem for Parts<'a> {
     ghost use Rattle.pop_io.specs.declared.names.TheConstants.{VARIABLE_LIMIT};
     ghost use Rattle.goal_json.specs.Examined.{part_item};
 
-    type Item = LeafPart;
+    type Item = StablePart;
 
     ghost can_read = { λ reader. (1 ≤ length reader.names.now) × (length reader.names.now ≤ VARIABLE_LIMIT)
         × AreNames variable_name reader.names.now };
@@ -93,9 +93,9 @@ impl<'a> ReadItem for Parts<'a> {
         &self,
         alloc: Global,
         path: &Path<'_>,
-        _found: &[LeafPart],
+        _found: &[StablePart],
         value: &Value,
-    ) -> Result<LeafPart, FormatFault> {
+    ) -> Result<StablePart, FormatFault> {
         part_of(alloc, path, self.names, value)
     }
 }
@@ -107,7 +107,7 @@ fn parts_of(
     names: &List<Text>,
     leaves: usize,
     value: &Value,
-) -> Result<List<LeafPart>, FormatFault>
+) -> Result<List<StablePart>, FormatFault>
     requires some { 1 ≤ length names.now }
     requires few { length names.now ≤ VARIABLE_LIMIT }
     requires names { AreNames variable_name names.now }

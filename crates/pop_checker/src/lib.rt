@@ -12,4 +12,5 @@ mod whole;
 pub use checked::Checked;
 pub use fault::Rejected;
 pub use law::{majority_computes, valid_is_right};
+pub use part::check_part;
 pub use whole::check;

@@ -21,7 +21,7 @@ use pres_ast::Pred;
 use std::alloc::Global;
 
 /// Whether the layers and both trees of the leaf with this number are right, and the bound for each agent.
-pub(crate) fn check_part(
+pub fn check_part(
     alloc: Global,
     leaf: &Leaf,
     number: u8,

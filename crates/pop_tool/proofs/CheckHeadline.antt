@@ -18,15 +18,21 @@ use Rattle.tool_texts.specs.Statuses.{status_of}
 use Rattle.tool_texts.specs.Steps.{After}
 use Rattle.tool_texts.specs.Lines.{just_one}
 use Rattle.tool_texts.specs.Refusals.{refusal_text, output_for}
-use Rattle.tool_texts.specs.Rejections.{rejected_text}
+use Rattle.tool_texts.specs.Rejections.{rejected_text, stable_rejected_text}
 use Rattle.tool_texts.proofs.OneValue.{one_value}
-use Rattle.tool_commands.specs.Bundles.{bundle_in, IsBundleOf, IsJudged}
-use Rattle.tool_commands.specs.Check.{certified_text, judgement, OfBundle, OfLine, CheckGives}
-use Rattle.tool_commands.proofs.Certified.{some_value}
+use Rattle.goal_json.proofs.WithoutGoals.{file_without}
+use Rattle.goal_checker.specs.declared.fault.StableRejected.{StableRejected}
+use Rattle.goal_json.specs.declared.bundle.StableBundle.{StableBundle}
+use Rattle.tool_commands.specs.declared.bundle.AnyBundle.{AnyBundle}
+use Rattle.tool_commands.specs.declared.bundle.AnyBundle.TheVariants.{Plain, Stable}
+use Rattle.tool_commands.specs.Bundles.{bundle_in, IsJudged}
+use Rattle.tool_commands.specs.StableBundles.{any_bundle_in, IsAnyBundleOf}
+use Rattle.tool_commands.specs.Check.{certified_text, stable_text, judgement, stable_judgement, OfBundle, OfAnyBundle, OfLine, CheckGives}
+use Rattle.tool_commands.proofs.AnyBundles.{of_plain, plain_value}
 use Rattle.pop_tool.specs.Answer.{InputGives}
 use Rattle.pop_tool.specs.Headline.{IsBundleLine, HasValidProof, CheckSays, IsValidLine}
 use Rattle.pop_tool.proofs.BundleInput.{file_right}
-use Rattle.pop_tool.proofs.FirstBytes.{first_byte, refusal_begins, rejection_begins}
+use Rattle.pop_tool.proofs.FirstBytes.{first_byte, refusal_begins, rejection_begins, stable_rejection_begins}
 
 -- a refusal begins with an f, a rejection with an r, and `certified` with a c
 not_refusal : (refusal : Refusal) (k : ℕ) → ended (refusal_text refusal) ≡ ended (certified_text k) → ⊥
@@ -36,6 +42,12 @@ not_refusal refusal k e = let b : 102 ≡ 99 = sym (refusal_begins refusal) ∙ 
 not_rejection : (rejected : Rejected) (k : ℕ) → ended (rejected_text rejected) ≡ ended (certified_text k) → ⊥
 unfolding first_byte
 not_rejection rejected k e = let b : 114 ≡ 99 = sym (rejection_begins rejected) ∙ ap first_byte e in absurd (omega (arith, b))
+
+-- `stable` begins with an s, and a rejection with an r
+not_stable : (bundle : StableBundle) (judged : Option StableRejected) (k : ℕ) → (stable_judgement bundle judged).text ≡ ended (certified_text k) → ⊥
+unfolding first_byte
+not_stable bundle None k e = let b : 115 ≡ 99 = ap first_byte e in absurd (omega (arith, b))
+not_stable bundle (Some rejected) k e = let b : 114 ≡ 99 = sym (stable_rejection_begins rejected) ∙ ap first_byte e in absurd (omega (arith, b))
 
 module _ (text : List ℕ) (bundle : Bundle) where
   judged_says : (value : Data) → IsBundleFile bundle value → (judged : Option Rejected) → IsJudged bundle judged → text ≡ (judgement bundle judged).text
@@ -50,7 +62,7 @@ module _ (text : List ℕ) (bundle : Bundle) where
   judged_valid None is k e = is
   judged_valid (Some rejected) is k e = absurd (not_rejection rejected k e)
 
-short_lines : (input : List ℕ) (given : Result Output Refusal) → length input ≤ INPUT_LIMIT → InputGives Check input given → CheckGives (lines_of input) given
+pub short_lines : (input : List ℕ) (given : Result Output Refusal) → length input ≤ INPUT_LIMIT → InputGives Check input given → CheckGives (lines_of input) given
 short_lines input given short is = rw (le-ltb INPUT_LIMIT (length input) short) at is
 
 -- what is given for the line of a bundle
@@ -58,8 +70,9 @@ pub check_says : (input : List ℕ) (bundle : Bundle) (given : Result Output Ref
 check_says input bundle given line is =
     let of_line : OfLine line.line given = subst (λ (ls : List (List ℕ)). After (just_one ls) OfLine given) line.lines (short_lines input given line.short is) in
     let value = one_value line.line of_line.1.0 (Some line.value) of_line.1.1 line.reads in
-    let read : of_line.0 ≡ Ok bundle = of_line.1.2 ∙ ap bundle_in value ∙ rw (bundle_again line.value bundle line.file) refl in
-    let of_bundle : OfBundle bundle given = subst (λ (r : Result Bundle Refusal). After r OfBundle given) read of_line.2 in
+    let plain : any_bundle_in (Some line.value) ≡ Ok (Plain bundle) = of_plain line.value (file_without bundle line.value line.file) ∙ rw (bundle_again line.value bundle line.file) refl in
+    let read : of_line.0 ≡ Ok (Plain bundle) = of_line.1.2 ∙ ap any_bundle_in value ∙ plain in
+    let of_bundle : OfBundle bundle given = subst (λ (r : Result AnyBundle Refusal). After r OfAnyBundle given) read of_line.2 in
     subst (λ (g : Result Output Refusal). CheckSays bundle (output_for g).text (status_of (output_for g).ending)) (sym of_bundle.2)
     (judged_says (judgement bundle of_bundle.0).text bundle line.value line.file of_bundle.0 of_bundle.1 refl)
 
@@ -70,18 +83,20 @@ module _ (k : ℕ) where
   refused : (refusal : Refusal) (given : Result Output Refusal) → given ≡ Err refusal → Printed given k → ⊥
   refused refusal given is printed = not_refusal refusal k (subst (λ (g : Result Output Refusal). Printed g k) is printed)
 
-  bundle_only : (line : List ℕ) (r : Result Bundle Refusal) (given : Result Output Refusal) → IsBundleOf line r → After r OfBundle given → Printed given k → (bundle : Bundle) × IsBundleOf line (Ok bundle) × HasValidProof bundle
+  bundle_only : (line : List ℕ) (r : Result AnyBundle Refusal) (given : Result Output Refusal) → IsAnyBundleOf line r → After r OfAnyBundle given → Printed given k → (bundle : Bundle) × IsAnyBundleOf line (Ok (Plain bundle)) × HasValidProof bundle
   bundle_only line (Err refusal) given of is printed = absurd (refused refusal given is printed)
-  bundle_only line (Ok bundle) given of is printed =
+  bundle_only line (Ok (Plain bundle)) given of is printed =
       (bundle, of, judged_valid (judgement bundle is.0).text bundle is.0 is.1 k (subst (λ (g : Result Output Refusal). Printed g k) is.2 printed))
+  bundle_only line (Ok (Stable bundle)) given of is printed =
+      absurd (not_stable bundle is.0 k (subst (λ (g : Result Output Refusal). Printed g k) is.2 printed))
 
   line_only : (input line : List ℕ) → length input ≤ INPUT_LIMIT → lines_of input ≡ line ∷ [] → (given : Result Output Refusal) → OfLine line given → Printed given k → IsValidLine input
   line_only input line short is given of printed =
       let found = bundle_only line of.0 given of.1 of.2 printed in
-      let value = some_value line found.1.0 found.0 found.1.1 (sym found.1.2) in
+      let value = plain_value line found.0 found.1 in
       record {
         bundle = found.0;
-        line = record { short = short; line = line; lines = is; value = value.0; reads = value.1; file = bundle_takes value.0 found.0 value.2 };
+        line = record { short = short; line = line; lines = is; value = value.value; reads = value.reads; file = bundle_takes value.value found.0 value.read };
         valid = found.2;
       }
 

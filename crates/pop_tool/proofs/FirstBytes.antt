@@ -4,10 +4,12 @@ use Rattle.pop_lines.specs.Lines.{ended}
 use Rattle.pop_journal.specs.Expected.{Difference}
 use Rattle.pop_checker.specs.declared.fault.Rejected.{Rejected}
 use Rattle.pop_checker.specs.declared.fault.Rejected.TheVariants.{Layers, Tree, Predicate}
+use Rattle.goal_checker.specs.declared.fault.StableRejected.{StableRejected}
+use Rattle.goal_checker.specs.declared.fault.StableRejected.TheVariants.{Plain, Goal}
 use Rattle.tool_texts.specs.declared.refusal.Refusal.{Refusal}
 use Rattle.tool_texts.specs.declared.refusal.Refusal.TheVariants.{TooLong, Line, NotJson, Format, Pred, Count, Size, Journal, Atoms, Range, Width, States, Wide, Settle}
 use Rattle.tool_texts.specs.Refusals.{refusal_text}
-use Rattle.tool_texts.specs.Rejections.{rejected_text}
+use Rattle.tool_texts.specs.Rejections.{rejected_text, stable_rejected_text}
 use Rattle.tool_texts.specs.Differences.{difference_text}
 
 unfoldable pub first_byte : List ℕ → ℕ
@@ -37,6 +39,11 @@ unfolding first_byte
 rejection_begins (Layers leaf why) = refl
 rejection_begins (Tree leaf value node why) = refl
 rejection_begins Predicate = refl
+
+pub stable_rejection_begins : (rejected : StableRejected) → first_byte (ended (stable_rejected_text rejected)) ≡ 114
+unfolding first_byte
+stable_rejection_begins (Plain rejected) = rejection_begins rejected
+stable_rejection_begins (Goal leaf value why) = refl
 
 -- a d
 pub difference_begins : (difference : Difference) → first_byte (difference_text difference) ≡ 100

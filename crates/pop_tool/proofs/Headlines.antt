@@ -20,7 +20,10 @@ use Rattle.tool_texts.specs.declared.status.Status.{Status}
 use Rattle.tool_texts.specs.declared.status.Status.TheVariants.{Done, Usage, Refused, Rejected, Undecided, Differs, ReadFault, WriteFault, NoMemory}
 use Rattle.tool_texts.specs.Statuses.{status_of}
 use Rattle.tool_texts.specs.Refusals.{output_for}
-use Rattle.tool_commands.specs.Check.{certified_text}
+use Rattle.tool_commands.specs.Check.{certified_text, stable_text}
+use Rattle.goal_json.specs.declared.bundle.StableBundle.{StableBundle}
+use Rattle.pop_tool.specs.StableHeadline.{IsStableLine, StableSays, IsValidStableLine}
+use Rattle.pop_tool.proofs.StableHeadline.{stable_says, stable_only}
 use Rattle.tool_commands.specs.Replay.{holds_text, holds_output}
 use Rattle.pop_tool.specs.Answer.{InputGives, Answer}
 use Rattle.pop_tool.specs.Outcome.{HasLeft, Wrote, Outcome}
@@ -48,6 +51,16 @@ module _ (words : List (List ℕ)) (input : List ℕ) (output : Output) (answer 
   only_headline is k printed =
       let a = given Check is in
       check_only k input a.0 a.1 (subst (λ (o : Output). o.text ≡ ended (certified_text k)) a.2 printed)
+
+  stable_headline : (bundle : StableBundle) → meaning_of words ≡ Ok Check → IsStableLine input bundle → StableSays bundle output.text (status_of output.ending)
+  stable_headline bundle is line =
+      let a = given Check is in
+      subst (λ (o : Output). StableSays bundle o.text (status_of o.ending)) (sym a.2) (stable_says input bundle a.0 line a.1)
+
+  stable_only_headline : meaning_of words ≡ Ok Check → (k : ℕ) → output.text ≡ ended (stable_text k) → IsValidStableLine input
+  stable_only_headline is k printed =
+      let a = given Check is in
+      stable_only k input a.0 a.1 (subst (λ (o : Output). o.text ≡ ended (stable_text k)) a.2 printed)
 
   show_headline : (bundle : Bundle) → meaning_of words ≡ Ok Show → IsBundleLine input bundle → SaysShown bundle output.text (status_of output.ending) ↔ HasValidProof bundle
   show_headline bundle is line =
@@ -99,6 +112,8 @@ module _ (words : List (List ℕ)) (input : List ℕ) (output : Output) (answer 
       record {
         check = check_headline;
         only = only_headline;
+        stable = stable_headline;
+        stable_only = stable_only_headline;
         show = show_headline;
         shown = shown_headline;
         run = run_headline Whole;

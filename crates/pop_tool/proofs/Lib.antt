@@ -4,6 +4,7 @@ mod One
 mod BundleInput
 mod FirstBytes
 mod CheckHeadline
+mod StableHeadline
 mod ShowHeadline
 mod ShowChecked
 mod RunHeadline

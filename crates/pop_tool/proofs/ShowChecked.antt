@@ -15,9 +15,10 @@ use Rattle.tool_texts.specs.Steps.{After}
 use Rattle.tool_texts.specs.Refusals.{output_for}
 use Rattle.tool_commands.specs.Bundles.{IsBundleOf, IsJudged}
 use Rattle.tool_commands.specs.Check.{judgement, OfBundle, CheckGives}
+use Rattle.tool_commands.proofs.AnyBundles.{plain_line}
 use Rattle.tool_commands.specs.Show.{shown_or_rejected, OfBundle as OfShownBundle, ShowGives}
 use Rattle.tool_commands.proofs.OneCheck.{one_judged, one_bundle}
-use Rattle.pop_tool.specs.ShownChecked.{AreOfBundle, IsShownAsChecked}
+use Rattle.pop_tool.specs.ShownChecked.{AreOfBundle, IsWithoutGoals, IsShownAsChecked}
 use Rattle.pop_tool.proofs.Replies.{given_for}
 use Rattle.pop_tool.proofs.ShowHeadline.{bundle_line}
 
@@ -32,7 +33,7 @@ refused : (input : List ℕ) (refusal : Refusal) (checked shown : Result Output 
 refused input refusal checked shown c s =
     ((λ other. ap output_for (s ∙ sym c)), (λ done. absurd (let e = subst (λ (g : Result Output Refusal). (output_for g).ending ≡ Done) c done in cc e)))
 
-module _ (input : List ℕ) where
+module _ (input : List ℕ) (without : IsWithoutGoals input) where
   judged_agree : (bundle : Bundle) (line : List ℕ) → length input ≤ INPUT_LIMIT → lines_of input ≡ line ∷ [] → IsBundleOf line (Ok bundle) → (judged : Option Rejected) → IsJudged bundle judged → Agree input (judgement bundle judged) (shown_or_rejected bundle judged)
   judged_agree bundle line short one of None valid =
       ((λ other. absurd (other refl)), (λ done. record { bundle = bundle; line = bundle_line input line bundle short one of; valid = valid; certified = refl; lines = refl }))
@@ -49,8 +50,9 @@ module _ (input : List ℕ) where
   lines_agree : (lines : List (List ℕ)) → length input ≤ INPUT_LIMIT → lines_of input ≡ lines → (checked shown : Result Output Refusal) → CheckGives lines checked → ShowGives lines shown → Given input checked shown
   lines_agree [] short is checked shown c s = refused input _ checked shown c s
   lines_agree (line ∷ []) short is checked shown c s =
-      let same = one_bundle line s.0 c.0 s.1 c.1 in
-      bundle_agree line short is c.0 c.1 checked shown c.2 (subst (λ (r : Result Bundle Refusal). After r OfShownBundle shown) same s.2)
+      let plain = plain_line line checked (λ d has. without line d is has) c in
+      let same = one_bundle line s.0 plain.0 s.1 plain.1 in
+      bundle_agree line short is plain.0 plain.1 checked shown plain.2 (subst (λ (r : Result Bundle Refusal). After r OfShownBundle shown) same s.2)
   lines_agree (line ∷ second ∷ more) short is checked shown c s = refused input _ checked shown c s
 
   by_length : (long : Bool) → nat_lt INPUT_LIMIT (length input) ≡ long → (checked shown : Result Output Refusal)
@@ -59,8 +61,8 @@ module _ (input : List ℕ) where
   by_length false is checked shown c s = lines_agree (lines_of input) (ltb-false INPUT_LIMIT (length input) is) refl checked shown c s
 
 pub shown_as_checked : IsShownAsChecked
-shown_as_checked input checked shown check show =
+shown_as_checked input checked shown without check show =
     let c = given_for (codes "check" ∷ []) Check input checked refl check in
     let s = given_for (codes "show" ∷ []) Show input shown refl show in
     subst (λ (o : Output). Agree input o shown) (sym c.2)
-    (subst (λ (o : Output). Agree input (output_for c.0) o) (sym s.2) (by_length input (nat_lt INPUT_LIMIT (length input)) refl c.0 s.0 c.1 s.1))
+    (subst (λ (o : Output). Agree input (output_for c.0) o) (sym s.2) (by_length input without (nat_lt INPUT_LIMIT (length input)) refl c.0 s.0 c.1 s.1))

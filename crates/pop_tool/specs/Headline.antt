@@ -41,7 +41,7 @@ use Rattle.tool_texts.specs.declared.status.Status.{Status}
 use Rattle.tool_texts.specs.declared.status.Status.TheVariants.{Done, Undecided}
 use Rattle.tool_texts.specs.Json.{HasValue}
 use Rattle.tool_commands.specs.Start.{fitting_in}
-use Rattle.tool_commands.specs.Check.{certified_text}
+use Rattle.tool_commands.specs.Check.{certified_text, stable_text}
 use Rattle.tool_commands.specs.Show.{shown_text}
 use Rattle.tool_commands.specs.Replay.{holds_text}
 use Rattle.comp_net.specs.declared.choice.LeafChoice.{LeafChoice}
@@ -49,6 +49,8 @@ use Rattle.comp_net.specs.declared.choice.LeafChoice.TheVariants as leaves
 use Rattle.tool_commands.specs.Settle.{settle_text}
 use Rattle.tool_commands.specs.Compile.{bundle_line, IsCompiled}
 use Rattle.pop_tool.specs.Outcome.{IsAnswered}
+use Rattle.pop_tool.specs.StableHeadline.{IsStableLine, StableSays, IsValidStableLine}
+use Rattle.goal_json.specs.declared.bundle.StableBundle.{StableBundle}
 
 -- the input, within its limit, is one line, which is the file of this bundle
 pub record IsBundleLine (input : List ℕ) (bundle : Bundle) : Type 0 where
@@ -202,6 +204,10 @@ pub record Headline (words : List (List ℕ)) (input text : List ℕ) (status : 
   pub check : (bundle : Bundle) → meaning_of words ≡ Ok Check → IsBundleLine input bundle → CheckSays bundle text status
   -- `certified`, with any number, is printed only for a valid proof
   pub only : meaning_of words ≡ Ok Check → (k : ℕ) → text ≡ ended (certified_text k) → IsValidLine input
+  -- the same of `stable`, for a bundle of which some leaf has goals
+  pub stable : (bundle : StableBundle) → meaning_of words ≡ Ok Check → IsStableLine input bundle
+      → StableSays bundle text status
+  pub stable_only : meaning_of words ≡ Ok Check → (k : ℕ) → text ≡ ended (stable_text k) → IsValidStableLine input
   -- a bundle is shown exactly when its proof is valid
   pub show : (bundle : Bundle) → meaning_of words ≡ Ok Show → IsBundleLine input bundle
       → SaysShown bundle text status ↔ HasValidProof bundle

@@ -22,7 +22,11 @@ use Rattle.tool_texts.specs.Refusals.{output_for}
 use Rattle.tool_texts.proofs.Goes.{bind_keeps, after_keeps}
 use Rattle.tool_commands.specs.Eval.{named, truth_in, eval_output}
 use Rattle.tool_commands.specs.Play.{end_crowd, OfEnd, OfLines, PlayGives}
-use Rattle.tool_commands.specs.Check.{judgement, OfBundle, OfLine, CheckGives}
+use Rattle.goal_json.specs.declared.bundle.StableBundle.{StableBundle}
+use Rattle.goal_checker.specs.declared.fault.StableRejected.{StableRejected}
+use Rattle.tool_commands.specs.declared.bundle.AnyBundle.{AnyBundle}
+use Rattle.tool_commands.specs.declared.bundle.AnyBundle.TheVariants.{Plain, Stable}
+use Rattle.tool_commands.specs.Check.{judgement, stable_judgement, OfAnyBundle, OfLine, CheckGives}
 use Rattle.tool_commands.specs.Show.{shown_or_rejected, OfBundle as OfShownBundle, OfLine as OfShownLine, ShowGives}
 use Rattle.tool_commands.specs.Run.{run_ending, OfJudged, OfLines as OfRunLines, RunGives}
 use Rattle.tool_commands.specs.declared.replay.TheConstants.{JOURNAL_LINE}
@@ -59,10 +63,18 @@ judgement_other : (bundle : Bundle) (judged : Option Rejected) → IsOther (Ok (
 judgement_other bundle None e = absurd cc
 judgement_other bundle (Some rejected) e = absurd cc
 
+stable_other : (bundle : StableBundle) (judged : Option StableRejected) → IsOther (Ok (stable_judgement bundle judged))
+stable_other bundle None e = absurd cc
+stable_other bundle (Some rejected) e = absurd cc
+
+any_other : (bundle : AnyBundle) (given : Result Output Refusal) → OfAnyBundle bundle given → IsOther given
+any_other (Plain bundle) given is = subst IsOther (sym is.2) (judgement_other bundle is.0)
+any_other (Stable bundle) given is = subst IsOther (sym is.2) (stable_other bundle is.0)
+
 check_other : (lines : List (List ℕ)) (given : Result Output Refusal) → CheckGives lines given → IsOther given
 check_other lines =
     after_keeps IsOther refused (just_one lines) OfLine
-    (λ line given is. after_keeps IsOther refused is.0 OfBundle (λ bundle given is. subst IsOther (sym is.2) (judgement_other bundle is.0)) given is.2)
+    (λ line given is. after_keeps IsOther refused is.0 OfAnyBundle any_other given is.2)
 
 shown_other : (bundle : Bundle) (judged : Option Rejected) → IsOther (Ok (shown_or_rejected bundle judged))
 shown_other bundle None e = absurd cc

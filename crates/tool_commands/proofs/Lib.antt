@@ -9,6 +9,7 @@ pub mod PlayTuples
 pub mod Leads
 pub mod Ready
 pub mod Certified
+pub mod AnyBundles
 pub mod Endings
 pub mod OneLast
 pub mod OnePlay

@@ -10,7 +10,13 @@ use Rattle.tool_texts.specs.Lines.{just_one}
 use Rattle.tool_texts.proofs.Goes.{one_after}
 use Rattle.tool_texts.proofs.OneValue.{one_value}
 use Rattle.tool_commands.specs.Bundles.{bundle_in, begun, IsBundleOf, IsBegunBy, IsJudged}
-use Rattle.tool_commands.specs.Check.{judgement, OfBundle, OfLine, CheckGives}
+use Rattle.goal_json.specs.declared.bundle.StableBundle.{StableBundle}
+use Rattle.goal_checker.specs.declared.fault.StableRejected.{StableRejected}
+use Rattle.goal_checker.proofs.OneStableFault.{one_stable_rejected, none_stable_rejected}
+use Rattle.tool_commands.specs.declared.bundle.AnyBundle.{AnyBundle}
+use Rattle.tool_commands.specs.declared.bundle.AnyBundle.TheVariants.{Plain, Stable}
+use Rattle.tool_commands.specs.StableBundles.{any_bundle_in, IsAnyBundleOf, IsStableJudged}
+use Rattle.tool_commands.specs.Check.{judgement, stable_judgement, OfBundle, OfStableBundle, OfAnyBundle, OfLine, CheckGives}
 
 pub one_judged : (bundle : Bundle) (v w : Option Rejected) → IsJudged bundle v → IsJudged bundle w → v ≡ w
 one_judged bundle None None p q = refl
@@ -29,10 +35,28 @@ of_bundle : (bundle : Bundle) (x y : Result Output Refusal) → OfBundle bundle 
 of_bundle bundle x y p q =
     p.2 ∙ ap (λ (o : Option Rejected). Ok (judgement bundle o)) (one_judged bundle p.0 q.0 p.1 q.1) ∙ sym q.2
 
+one_stable_judged : (bundle : StableBundle) (v w : Option StableRejected) → IsStableJudged bundle v → IsStableJudged bundle w → v ≡ w
+one_stable_judged bundle None None p q = refl
+one_stable_judged bundle None (Some rejected) p q = absurd (none_stable_rejected bundle.net bundle.pred bundle.proof rejected p q)
+one_stable_judged bundle (Some rejected) None p q = absurd (none_stable_rejected bundle.net bundle.pred bundle.proof rejected q p)
+one_stable_judged bundle (Some v) (Some w) p q =
+    ap (λ (r : StableRejected). Some r) (one_stable_rejected bundle.net bundle.pred bundle.proof v w p q)
+
+of_stable : (bundle : StableBundle) (x y : Result Output Refusal) → OfStableBundle bundle x → OfStableBundle bundle y → x ≡ y
+of_stable bundle x y p q =
+    p.2 ∙ ap (λ (o : Option StableRejected). Ok (stable_judgement bundle o)) (one_stable_judged bundle p.0 q.0 p.1 q.1) ∙ sym q.2
+
+of_any : (bundle : AnyBundle) (x y : Result Output Refusal) → OfAnyBundle bundle x → OfAnyBundle bundle y → x ≡ y
+of_any (Plain bundle) x y p q = of_bundle bundle x y p q
+of_any (Stable bundle) x y p q = of_stable bundle x y p q
+
+pub one_any_bundle : (line : List ℕ) (r s : Result AnyBundle Refusal) → IsAnyBundleOf line r → IsAnyBundleOf line s → r ≡ s
+one_any_bundle line r s p q = p.2 ∙ ap any_bundle_in (one_value line p.0 q.0 p.1 q.1) ∙ sym q.2
+
 of_line : (line : List ℕ) (x y : Result Output Refusal) → OfLine line x → OfLine line y → x ≡ y
 of_line line x y p q =
-    let same = one_bundle line p.0 q.0 p.1 q.1 in
-    one_after q.0 OfBundle (λ bundle is. of_bundle bundle) x y (subst (λ (r : Result Bundle Refusal). After r OfBundle x) same p.2) q.2
+    let same = one_any_bundle line p.0 q.0 p.1 q.1 in
+    one_after q.0 OfAnyBundle (λ bundle is. of_any bundle) x y (subst (λ (r : Result AnyBundle Refusal). After r OfAnyBundle x) same p.2) q.2
 
 pub one_check : (lines : List (List ℕ)) (x y : Result Output Refusal) → CheckGives lines x → CheckGives lines y → x ≡ y
 one_check lines x y p q = one_after (just_one lines) OfLine (λ line is. of_line line) x y p q

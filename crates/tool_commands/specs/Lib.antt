@@ -1,6 +1,7 @@
 pub mod Eval
 pub mod Start
 pub mod Bundles
+pub mod StableBundles
 pub mod Check
 pub mod Show
 pub mod Play

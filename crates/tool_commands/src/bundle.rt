@@ -1,6 +1,6 @@
 //! The bundle of a line, and how its net starts.
 
-ghost use Rattle.std.specs.Prelude.{◌≡◌, option_map, IfOk, OnOk};
+ghost use Rattle.std.specs.Prelude.{◌≡◌, option_map, Some, IfOk, OnOk};
 ghost use Rattle.pop_io.specs.Failures.{IfFault};
 ghost use Rattle.serde_json.specs.View.{view};
 ghost use Rattle.cert_base.specs.ValidProof.{ValidProof};
@@ -9,9 +9,12 @@ ghost use Rattle.pop_checker.specs.Rejections.{IsRejected};
 ghost use Rattle.tool_texts.specs.Steps.{GivesStep, Obeys};
 ghost use Rattle.tool_commands.specs.Start.{IsStart};
 ghost use Rattle.tool_commands.specs.Bundles.{bundle_in, begun, IsBundleWithin, IsBundleOf, IsBegunBy, TellsRejection};
+ghost use Rattle.tool_commands.specs.StableBundles.{stable_in, any_bundle_in, IsStableBundleWithin, IsAnyBundleWithin};
+ghost use Rattle.tool_commands.specs.StableBundles.{IsAnyBundleOf};
 
 use crate::start::{Start, start_of};
 use cert_json::{Bundle, read_bundle};
+use goal_json::{StableBundle, has_goals, read_stable_bundle};
 use pop_checker::{Checked, Rejected, check};
 use pop_io::Failure;
 use serde_json::Value;
@@ -30,6 +33,51 @@ fn bundle_of_value(alloc: Global, value: &Option<Value>) -> Result<Bundle, Stop>
         Ok(bundle) => Ok(bundle),
         Err(fault) => Err(stop_of(fault)),
     }
+}
+
+/// A bundle of which no leaf has goals, or one of which some do.
+#[derive(Drop)]
+pub(crate) enum AnyBundle {
+    Plain(Bundle),
+    Stable(StableBundle),
+}
+
+/// The bundle with goals that this value is the file of.
+fn stable_of_value(alloc: Global, value: &Value) -> Result<StableBundle, Stop>
+    ensures bundle { GivesStep (λ bundle. bundle) result (stable_in (view value.now)) }
+    ensures limits { IfOk result IsStableBundleWithin }
+{
+    match read_stable_bundle(alloc, value) {
+        Ok(bundle) => Ok(bundle),
+        Err(fault) => Err(stop_of(fault)),
+    }
+}
+
+/// The bundle of a line that has this value, with goals or without.
+#[tactic(auto, unfolding(crate::specs::StableBundles::any_bundle_in))]
+fn any_bundle_of_value(alloc: Global, value: &Option<Value>) -> Result<AnyBundle, Stop>
+    ensures bundle { GivesStep (λ bundle. bundle) result (any_bundle_in (option_map view value.now)) }
+    ensures limits { IfOk result IsAnyBundleWithin }
+{
+    match value {
+        Some(value) if has_goals(value) => {
+            let bundle = stable_of_value(alloc, value)?;
+            Ok(AnyBundle::Stable(bundle))
+        }
+        _ => {
+            let bundle = bundle_of_value(alloc, value)?;
+            Ok(AnyBundle::Plain(bundle))
+        }
+    }
+}
+
+/// The bundle of a line, with goals or without. The line's value is dropped.
+pub(crate) fn any_bundle_of_line(alloc: Global, line: &[u8]) -> Result<AnyBundle, Stop>
+    ensures bundle { Obeys (IsAnyBundleOf line.now) (λ bundle. bundle) result }
+    ensures limits { IfOk result IsAnyBundleWithin }
+{
+    let value = value_of(alloc, line)?;
+    any_bundle_of_value(alloc, &value)
 }
 
 /// The bundle of a line. The line's value is dropped.

@@ -8,6 +8,12 @@ use Rattle.cert_tree.specs.declared.fault.TreeWhy.TheVariants.{Missing, TooDeep,
 use Rattle.cert_tree.specs.declared.fault.TreeWhy.TheVariants.{NotOpen, NotClosed, TooManyFacts, Rest}
 use Rattle.pop_checker.specs.declared.fault.Rejected.{Rejected}
 use Rattle.pop_checker.specs.declared.fault.Rejected.TheVariants.{Layers, Tree, Predicate}
+use Rattle.cert_goals.specs.declared.fault.SetFault.{SetFault}
+use Rattle.cert_goals.specs.declared.fault.SetFault.TheVariants.{Output as HasOutput, Leaves, Wakes as WakesMove}
+use Rattle.cert_goals.specs.declared.goal.GoalWhy.{GoalWhy}
+use Rattle.cert_goals.specs.declared.goal.GoalWhy.TheVariants.{Layers as OfLayers, Set, Tree as OfTree}
+use Rattle.goal_checker.specs.declared.fault.StableRejected.{StableRejected}
+use Rattle.goal_checker.specs.declared.fault.StableRejected.TheVariants.{Plain, Goal}
 use Rattle.tool_texts.specs.declared.output.Ending.TheVariants as ending
 use Rattle.tool_texts.specs.declared.output.Output.{Output}
 
@@ -36,6 +42,28 @@ rejected_text (Tree leaf value node why) =
     codes "rejected leaf " ++ decimal leaf ++ codes " " ++ value_word value ++ codes " " ++ decimal node ++ codes " "
     ++ tree_words why
 rejected_text Predicate = codes "rejected predicate"
+
+-- what is wrong with a set of a goal
+abbrev pub set_words : SetFault → List ℕ
+set_words (HasOutput set state) = codes "set " ++ decimal set ++ codes " output " ++ decimal state
+set_words (Leaves set move) = codes "set " ++ decimal set ++ codes " leaves " ++ decimal move
+set_words (WakesMove set move woken) =
+    codes "set " ++ decimal set ++ codes " wakes " ++ decimal move ++ codes " " ++ decimal woken
+
+abbrev pub goal_words : GoalWhy → List ℕ
+goal_words (OfLayers why) = codes "layers " ++ layer_words why
+goal_words (Set fault) = set_words fault
+goal_words (OfTree fault) = decimal fault.node ++ codes " " ++ tree_words fault.why
+
+-- a proof without goals is rejected in the same words
+abbrev pub stable_rejected_text : StableRejected → List ℕ
+stable_rejected_text (Plain rejected) = rejected_text rejected
+stable_rejected_text (Goal leaf value why) =
+    codes "rejected leaf " ++ decimal leaf ++ codes " " ++ value_word value ++ codes " " ++ goal_words why
+
+-- for a proof with goals that is not valid
+abbrev pub stable_rejection_output : StableRejected → Output
+stable_rejection_output rejected = record { text = ended (stable_rejected_text rejected); ending = ending.Rejected }
 
 -- for a proof that is not valid
 abbrev pub rejection_output : Rejected → Output

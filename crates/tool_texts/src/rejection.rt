@@ -2,10 +2,13 @@
 
 ghost use Rattle.std.specs.Prelude.{Some};
 ghost use Rattle.tool_texts.specs.Rejections.{layer_words, tree_words, rejected_text};
+ghost use Rattle.tool_texts.specs.Rejections.{set_words, goal_words, stable_rejected_text};
 
 use crate::output::{Ending, Output};
+use cert_goals::{GoalWhy, SetFault};
 use cert_layers::LayerWhy;
-use cert_tree::TreeWhy;
+use cert_tree::{TreeFault, TreeWhy};
+use goal_checker::StableRejected;
 use pop_checker::Rejected;
 use std::alloc::{AllocError, Global};
 use std::fmt;
@@ -18,9 +21,21 @@ struct LayerWords(LayerWhy);
 #[derive(Clone, Copy)]
 struct TreeWords(TreeWhy);
 
+/// What is wrong with a set.
+#[derive(Clone, Copy)]
+struct SetWords(SetFault);
+
+/// What is wrong with a goal.
+#[derive(Clone, Copy)]
+struct GoalWords(GoalWhy);
+
 /// The line without its line feed.
 #[derive(Clone, Copy)]
 struct Rejection(Rejected);
+
+/// The same for a proof with goals.
+#[derive(Clone, Copy)]
+struct StableRejection(StableRejected);
 
 impl fmt::Display for LayerWords {
     ghost output = { λ words. Some (layer_words words.0) };
@@ -75,9 +90,69 @@ impl fmt::Display for Rejection {
     }
 }
 
+impl fmt::Display for SetWords {
+    ghost output = { λ words. Some (set_words words.0) };
+
+    fn fmt<W: fmt::Write>(&self, f: &mut fmt::Formatter<W>) -> fmt::Result {
+        match self.0 {
+            SetFault::Output { set, state } => write!(f, "set {set} output {state}"),
+            SetFault::Leaves { set, move_number } => write!(f, "set {set} leaves {move_number}"),
+            SetFault::Wakes {
+                set,
+                move_number,
+                woken,
+            } => write!(f, "set {set} wakes {move_number} {woken}"),
+        }
+    }
+}
+
+impl fmt::Display for GoalWords {
+    ghost output = { λ words. Some (goal_words words.0) };
+
+    fn fmt<W: fmt::Write>(&self, f: &mut fmt::Formatter<W>) -> fmt::Result {
+        match self.0 {
+            GoalWhy::Layers(why) => {
+                let why = LayerWords(why);
+                write!(f, "layers {why}")
+            }
+            GoalWhy::Set(fault) => SetWords(fault).fmt(f),
+            GoalWhy::Tree(TreeFault { node, why }) => {
+                let why = TreeWords(why);
+                write!(f, "{node} {why}")
+            }
+        }
+    }
+}
+
+impl fmt::Display for StableRejection {
+    ghost output = { λ words. Some (stable_rejected_text words.0) };
+
+    fn fmt<W: fmt::Write>(&self, f: &mut fmt::Formatter<W>) -> fmt::Result {
+        match self.0 {
+            StableRejected::Plain(rejected) => Rejection(rejected).fmt(f),
+            StableRejected::Goal { leaf, value, why } => {
+                let why = GoalWords(why);
+                write!(f, "rejected leaf {leaf} {value} {why}")
+            }
+        }
+    }
+}
+
 impl Output {
     ghost use Rattle.std.specs.Prelude.{◌≡◌, IfOk};
-    ghost use Rattle.tool_texts.specs.Rejections.{rejection_output};
+    ghost use Rattle.tool_texts.specs.Rejections.{rejection_output, stable_rejection_output};
+
+    /// What is written for a proof with goals that is not valid: the line that names the first part that fails.
+    pub fn of_stable_rejection(
+        alloc: Global,
+        rejected: StableRejected,
+    ) -> Result<Output, AllocError>
+        ensures { IfOk result (λ output. output ≡ stable_rejection_output rejected) }
+    {
+        let rejected = StableRejection(rejected);
+        let text = format!(in alloc; "{rejected}\n")?;
+        Ok(Output::new(text.into_bytes(), Ending::Rejected))
+    }
 
     /// What is written for a proof that is not valid: the line that names the first part that fails.
     pub fn of_rejection(alloc: Global, rejected: Rejected) -> Result<Output, AllocError>

@@ -1,0 +1,3 @@
+pub mod ValidStable
+pub mod Rejections
+pub mod ChecksStable

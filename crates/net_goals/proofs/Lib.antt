@@ -1,0 +1,9 @@
+pub mod Orders
+pub mod Combined
+pub mod Led
+pub mod Moves
+pub mod Join
+pub mod Exceptions
+pub mod Random
+pub mod Right
+pub mod EitherKind

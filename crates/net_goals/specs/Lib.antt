@@ -1,0 +1,6 @@
+pub mod OutputStable
+pub mod AlmostSurely
+pub mod StablyRight
+pub mod LeafGoals
+pub mod Kinds
+pub mod Laws

@@ -1,0 +1,8 @@
+//! From leaves to the net: if each leaf comes to a set of right crowds that no step leaves, the net is stably right.
+//! It stands on `pop_fair` and `pop_random`; a leaf's sets are those of `cert_goals`, or it falls silent (`cert_base`).
+//! The layer above uses: the law of such leaves, silent ones among them. A library so far: `check` doesn't call it yet.
+#![tactic(auto)]
+
+mod law;
+
+pub use law::{LeafGoals, leaf_goals_join, silent_and_stable_leaves};

@@ -1,0 +1,43 @@
+-- StableHeadline: what a text printed for a bundle with goals says of a protocol.
+use Rattle.std.specs.Prelude.{◌≡◌, ◌↔◌, ◌≤◌, ℕ, true, List, [], ◌∷◌, length, Some}
+use Rattle.serde_json.specs.Data.{Data}
+use Rattle.pop_io.specs.declared.whole.TheConstants.{INPUT_LIMIT}
+use Rattle.pop_lines.specs.Lines.{lines_of, ended}
+use Rattle.goal_json.specs.declared.bundle.StableBundle.{StableBundle}
+use Rattle.goal_json.specs.StableFile.{has_goals, IsStableFile}
+use Rattle.net_goals.specs.StablyRight.{IsStablyRight}
+use Rattle.goal_checker.specs.ValidStable.{ValidStableProof, stable_bound}
+use Rattle.tool_texts.specs.declared.status.Status.{Status}
+use Rattle.tool_texts.specs.declared.status.Status.TheVariants.{Done}
+use Rattle.tool_texts.specs.Json.{HasValue}
+use Rattle.tool_commands.specs.Check.{stable_text}
+
+-- the input, within its limit, is one line, which is the file of this bundle, of which some leaf has goals
+pub record IsStableLine (input : List ℕ) (bundle : StableBundle) : Type 0 where
+  pub short : length input ≤ INPUT_LIMIT
+  pub line : List ℕ
+  pub lines : lines_of input ≡ line ∷ []
+  pub value : Data
+  pub reads : HasValue line (Some value)
+  pub goals : has_goals value ≡ true
+  pub file : IsStableFile bundle value
+
+abbrev pub HasValidGoals : StableBundle → Type 0
+HasValidGoals bundle = ValidStableProof bundle.net bundle.pred bundle.proof
+
+-- `stable` is printed, with this bound
+abbrev pub SaysStable : ℕ → List ℕ → Status → Type 0
+SaysStable bound text status = (text ≡ ended (stable_text bound)) × (status ≡ Done)
+
+-- `stable` is printed, with the bound, exactly when the proof is valid. Then at most so many steps for each agent lead
+-- from every crowd on the way to one from which on every agent outputs the predicate's value, whatever happens. So every
+-- fair execution from an input stabilises to it, though agents may go on changing.
+pub record StableSays (bundle : StableBundle) (text : List ℕ) (status : Status) : Type 0 where
+  pub stable : SaysStable (stable_bound bundle.proof) text status ↔ HasValidGoals bundle
+  pub right : HasValidGoals bundle → IsStablyRight bundle.net bundle.pred.tree (stable_bound bundle.proof)
+
+-- the input is the line of some bundle with goals whose proof is valid
+pub record IsValidStableLine (input : List ℕ) : Type 0 where
+  pub bundle : StableBundle
+  pub line : IsStableLine input bundle
+  pub valid : HasValidGoals bundle
