@@ -1,5 +1,5 @@
--- Every wrong end meets the base facts.
-use Rattle.std.proofs.Common.{◌≡◌, ◌≢◌, ◌⊎◌, inl, inr, ℕ, zero, suc, ◌+◌, ◌*◌, ◌<◌, ◌≤◌, Bool, true, false, List, [], ◌∷◌, length, map, replicate, refl, ap, sym, ◌∙◌, zero-add, arith}
+-- Every wrong end meets the base facts, and every end with an agent outside each set of a goal meets the goal's facts.
+use Rattle.std.proofs.Common.{◌≡◌, ◌≢◌, ◌⊎◌, inl, inr, ℕ, zero, suc, ◌+◌, ◌*◌, ◌<◌, ◌≤◌, Bool, true, false, List, [], ◌∷◌, ◌++◌, length, map, replicate, get_or, append_assoc, not, refl, ap, sym, subst, ◌∙◌, zero-add, arith}
 use Rattle.std.specs.Prelude.{pos, negsuc, ◌*ℤ◌, sum, Some, slice_get, slice_index, slice_index_or, All}
 use Rattle.std.specs.List.{range_with_len}
 use Rattle.std.proofs.Math.IntN.{pos-*ℤ-pos}
@@ -11,10 +11,14 @@ use Rattle.pres_ast.specs.PredModel.{PredModel}
 use Rattle.pres_ast.specs.PredicateValue.{predicate_value}
 use Rattle.pop_net.specs.LeafModel.{LeafModel, IsLeaf, one_at}
 use Rattle.pop_net.proofs.Quiet.{All-slice_get}
-use Rattle.cert_base.specs.declared.fact.Fact.TheVariants.{Holds}
+use Rattle.cert_base.specs.declared.fact.Fact.{Fact}
+use Rattle.cert_base.specs.declared.fact.Fact.TheVariants.{Ge, Holds}
+use Rattle.cert_base.specs.Rows.{state_row}
 use Rattle.cert_base.specs.Valuation.{Valuation, MeetsFact, input_counts}
-use Rattle.cert_base.specs.FactsAndCases.{states_of, flow, two_agents_fact, differs, wrong_output_fact, base_list}
-use Rattle.cert_base.specs.Ends.{IsWrongEnd, HoldAtWrongEnds}
+use Rattle.cert_base.specs.FactsAndCases.{indicator, is_in, states_of, flow, two_agents_fact, differs, wrong_output_fact, base_list, outside_fact, goal_list}
+use Rattle.cert_base.specs.Ends.{IsEndFor, HoldAtWrongEnds}
+use Rattle.cert_base.specs.GoalEnds.{HasOutside, HoldAtOutsideEnds}
+use Rattle.cert_base.specs.Parts.{input_list}
 use Rattle.cert_base.proofs.Dead.{one_there}
 use Rattle.cert_base.proofs.FlowFacts.{dot, terms_value-terms_from, flow_met}
 use Rattle.cert_base.proofs.Indicators.{sum_if, row_value-behind, sum_if-none}
@@ -49,69 +53,82 @@ dot-ones count k (n ∷ counts) e =
 
 -- ---- all facts
 
-module _ (leaf : LeafModel) (p : PredModel) (value : Bool) (count : Valuation) (is : IsLeaf leaf) (variables : p.variables ≡ length leaf.inputs) (end : IsWrongEnd leaf p.tree value count) where
-  abbrev counts : List ℕ
-  counts = end.reached.counts
-
-  inputs_are : (j : ℕ) → j < length end.reached.counts → count (0 + j) ≡ slice_index end.reached.counts j
+module _ (leaf dead : LeafModel) (p : PredModel) (value : Bool) (count : Valuation) (is : IsLeaf leaf) (variables : p.variables ≡ length leaf.inputs) (end : IsEndFor leaf dead count) (has_value : predicate_value p.tree end.counts ≡ value) where
+  inputs_are : (j : ℕ) → j < length end.counts → count (0 + j) ≡ slice_index end.counts j
   inputs_are j l =
-      ap count (zero-add j) ∙ end.reached.execution.inputs j (let m : j < length leaf.inputs = omega (arith, end.reached.input.one_each, l) in m)
+      ap count (zero-add j) ∙ end.execution.inputs j (let m : j < length leaf.inputs = omega (arith, end.input.one_each, l) in m)
 
   flows_met : All (MeetsFact count) (map (flow leaf) (states_of leaf))
   flows_met =
       All-map (MeetsFact count) (flow leaf) (states_of leaf)
       (all_range (λ q. MeetsFact count (flow leaf q)) 0 (length leaf.states)
-      (λ q a l. flow_met leaf count end.reached.counts end.reached.path end.reached.end end.reached.way end.reached.input.one_each end.reached.execution q (let m : q < length leaf.states = omega arith in m)))
+      (λ q a l. flow_met leaf count end.counts end.path end.end end.way end.input.one_each end.execution q (let m : q < length leaf.states = omega arith in m)))
 
   two_met : MeetsFact count (two_agents_fact leaf)
   two_met =
       let terms = terms_value-terms_from count 0 (replicate (length leaf.inputs) (pos 1)) in
-      let ones = dot-ones count 0 end.reached.counts inputs_are in
-      let long : dot count 0 (replicate (length end.reached.counts) (pos 1)) ≡ dot count 0 (replicate (length leaf.inputs) (pos 1)) = ap (λ n. dot count 0 (replicate n (pos 1))) end.reached.input.one_each in
-      let two = end.reached.input.two_agents in
+      let ones = dot-ones count 0 end.counts inputs_are in
+      let long : dot count 0 (replicate (length end.counts) (pos 1)) ≡ dot count 0 (replicate (length leaf.inputs) (pos 1)) = ap (λ n. dot count 0 (replicate n (pos 1))) end.input.one_each in
+      let two = end.input.two_agents in
       omega (arith, ints, terms, ones, long, two)
 
   holds_met : MeetsFact count (Holds p value)
   holds_met =
-      ap (predicate_value p.tree) (ap (input_counts count) (variables ∙ sym end.reached.input.one_each) ∙ counts_are count 0 end.reached.counts inputs_are)
-      ∙ end.has_value
+      ap (predicate_value p.tree) (ap (input_counts count) (variables ∙ sym end.input.one_each) ∙ counts_are count 0 end.counts inputs_are)
+      ∙ has_value
 
-  abbrev is_wrong : ℕ → Bool
-  is_wrong q = differs value (slice_index_or leaf.outputs q false)
+  inputs_met : All (MeetsFact count) (input_list leaf p value)
+  inputs_met =
+      All-append (MeetsFact count) (map (flow leaf) (states_of leaf)) (two_agents_fact leaf ∷ Holds p value ∷ []) flows_met
+      (All-cons (MeetsFact count) (two_agents_fact leaf) (Holds p value ∷ []) two_met (All-cons (MeetsFact count) (Holds p value) [] holds_met (All-nil (MeetsFact count))))
 
-  state_wrong : is_wrong end.state ≡ true
-  state_wrong = go value (slice_index_or leaf.outputs end.state false) end.wrong
-    where
-      go : (a b : Bool) → b ≢ a → differs a b ≡ true
-      go true true ne = absurd (ne refl)
-      go true false ne = refl
-      go false true ne = refl
-      go false false ne = absurd (ne refl)
+  -- an agent is in a state that passes a test
+  module _ (test : ℕ → Bool) (agent state : ℕ) (there : slice_get end.end agent ≡ Some state) (passes : test state ≡ true) where
+    below : state < length leaf.states
+    below =
+        All-slice_get (λ (q : ℕ). q < length leaf.states) end.end agent state (end_in_range leaf is end.counts end.path end.end end.input.one_each end.way) there
 
-  below : end.state < length leaf.states
-  below =
-      All-slice_get (λ (q : ℕ). q < length leaf.states) end.reached.end end.agent end.state (end_in_range leaf is end.reached.counts end.reached.path end.reached.end end.reached.input.one_each end.reached.way) end.there
+    some_passes : (0 < sum_if count test (length leaf.inputs) (states_of leaf)) ⊎ (sum_if count test (length leaf.inputs) (states_of leaf) ≤ 0) → 0 < sum_if count test (length leaf.inputs) (states_of leaf)
+    some_passes (inl l) = l
+    some_passes (inr none) =
+        let some = one_there state end.end agent state there in
+        let one : one_at state state ≡ 1 = rw (eq-eqb state state refl) refl in
+        let counted = end.execution.states state below in
+        let zero_sum : sum_if count test (length leaf.inputs) (states_of leaf) ≡ 0 = omega (arith, none) in
+        let no_one = sum_if-none count test (length leaf.inputs) (states_of leaf) zero_sum state state (range_get (length leaf.states) state below) passes in
+        absurd (omega (arith, some, one, counted, no_one))
 
-  some_wrong : (0 < sum_if count is_wrong (length leaf.inputs) (states_of leaf)) ⊎ (sum_if count is_wrong (length leaf.inputs) (states_of leaf) ≤ 0) → 0 < sum_if count is_wrong (length leaf.inputs) (states_of leaf)
-  some_wrong (inl l) = l
-  some_wrong (inr none) =
-      let some = one_there end.state end.reached.end end.agent end.state end.there in
-      let one : one_at end.state end.state ≡ 1 = rw (eq-eqb end.state end.state refl) refl in
-      let counted = end.reached.execution.states end.state below in
-      let zero_sum : sum_if count is_wrong (length leaf.inputs) (states_of leaf) ≡ 0 = omega (arith, none) in
-      let no_one = sum_if-none count is_wrong (length leaf.inputs) (states_of leaf) zero_sum end.state end.state (range_get (length leaf.states) end.state below) state_wrong in
-      absurd (omega (arith, some, one, counted, no_one))
+    some_met : MeetsFact count (Ge (state_row leaf (map (λ q. indicator (test q)) (states_of leaf)) (negsuc 0)))
+    some_met =
+        let row = row_value-behind count test (length leaf.inputs) (states_of leaf) (negsuc 0) in
+        let some = some_passes (cases_lt 0 (sum_if count test (length leaf.inputs) (states_of leaf))) in
+        omega (arith, ints, row, some)
 
-  wrong_met : MeetsFact count (wrong_output_fact leaf value)
-  wrong_met =
-      let row = row_value-behind count is_wrong (length leaf.inputs) (states_of leaf) (negsuc 0) in
-      let some = some_wrong (cases_lt 0 (sum_if count is_wrong (length leaf.inputs) (states_of leaf))) in
-      omega (arith, ints, row, some)
+  -- with what else holds
+  and_met : (more : List Fact) → All (MeetsFact count) more → All (MeetsFact count) (map (flow leaf) (states_of leaf) ++ two_agents_fact leaf ∷ Holds p value ∷ more)
+  and_met more met =
+      subst (λ (facts : List Fact). All (MeetsFact count) facts) (append_assoc (map (flow leaf) (states_of leaf)) (two_agents_fact leaf ∷ Holds p value ∷ []) more)
+      (All-append (MeetsFact count) (input_list leaf p value) more inputs_met met)
 
-  all_met : All (MeetsFact count) (base_list leaf p value)
-  all_met =
-      All-append (MeetsFact count) (map (flow leaf) (states_of leaf)) (two_agents_fact leaf ∷ Holds p value ∷ wrong_output_fact leaf value ∷ []) flows_met
-      (All-cons (MeetsFact count) (two_agents_fact leaf) (Holds p value ∷ wrong_output_fact leaf value ∷ []) two_met (All-cons (MeetsFact count) (Holds p value) (wrong_output_fact leaf value ∷ []) holds_met (All-cons (MeetsFact count) (wrong_output_fact leaf value) [] wrong_met (All-nil (MeetsFact count)))))
+  outside_met : (set : List ℕ) → HasOutside end.end set → MeetsFact count (outside_fact leaf set)
+  outside_met set h =
+      some_met (λ q. not (is_in set q)) h.agent h.state h.there (let e : not (is_in set h.state) ≡ true = rw h.outside refl in e)
+
+differs-true : (a b : Bool) → b ≢ a → differs a b ≡ true
+differs-true true true ne = absurd (ne refl)
+differs-true true false ne = refl
+differs-true false true ne = refl
+differs-true false false ne = absurd (ne refl)
 
 pub wrong_ends-met : (leaf : LeafModel) (p : PredModel) (value : Bool) → IsLeaf leaf → p.variables ≡ length leaf.inputs → HoldAtWrongEnds leaf p.tree value (base_list leaf p value)
-wrong_ends-met leaf p value is variables count end = all_met leaf p value count is variables end
+wrong_ends-met leaf p value is variables count end =
+    and_met leaf leaf p value count is variables end.reached end.has_value (wrong_output_fact leaf value ∷ [])
+    (All-cons (MeetsFact count) (wrong_output_fact leaf value) []
+    (some_met leaf leaf p value count is variables end.reached end.has_value (λ q. differs value (slice_index_or leaf.outputs q false)) end.agent end.state end.there (differs-true value (slice_index_or leaf.outputs end.state false) end.wrong))
+    (All-nil (MeetsFact count)))
+
+pub outside_ends-met : (leaf : LeafModel) (p : PredModel) (value : Bool) (sets : List (List ℕ)) → IsLeaf leaf → p.variables ≡ length leaf.inputs → HoldAtOutsideEnds leaf p.tree value sets (goal_list leaf p value sets)
+outside_ends-met leaf p value sets is variables dead count end =
+    and_met leaf dead p value count is variables end.reached end.has_value (map (outside_fact leaf) sets)
+    (All-map (MeetsFact count) (outside_fact leaf) sets
+    (λ k d l. outside_met leaf dead p value count is variables end.reached end.has_value (get_or sets k d) (end.outside k d l)))

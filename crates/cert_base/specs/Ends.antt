@@ -12,15 +12,24 @@ use Rattle.cert_base.specs.declared.fact.Fact.{Fact}
 use Rattle.cert_base.specs.declared.fact.Fact.TheVariants.{Holds}
 use Rattle.cert_base.specs.Valuation.{Valuation, MeetsFact, IsOfExecution}
 
--- the counts are those of an execution that starts at an input and ends in a terminal crowd
-pub record IsEnd (leaf : LeafModel) (count : Valuation) : Type 0 where
+-- the counts are those of an execution that starts at an input and ends in a crowd in which `dead` has no step
+pub record IsEndFor (leaf dead : LeafModel) (count : Valuation) : Type 0 where
   pub counts : List ℕ
   pub path : List (List ℕ)
   pub end : List ℕ
   pub way : Leads (LeafStep leaf) (leaf_input_crowd leaf counts) path end
   pub input : IsInput (length leaf.inputs) (length leaf.helpers) counts
-  pub terminal : IsTerminal (LeafStep leaf) end
+  pub terminal : IsTerminal (LeafStep dead) end
   pub execution : IsOfExecution leaf count counts path end way
+
+-- the same for a terminal crowd
+abbrev pub IsEnd : LeafModel → Valuation → Type 0
+IsEnd leaf = IsEndFor leaf leaf
+
+-- both leaves have the same numbers of inputs and of states, so that these have the same variables
+pub record HaveSamePlaces (leaf dead : LeafModel) : Type 0 where
+  pub inputs : length dead.inputs ≡ length leaf.inputs
+  pub states : length dead.states ≡ length leaf.states
 
 abbrev pub MeetsAll : Valuation → List Fact → Type 0
 MeetsAll count facts = All (MeetsFact count) facts
@@ -30,8 +39,19 @@ abbrev pub MeetsOne : Valuation → List (List Fact) → Type 0
 MeetsOne count cases = (facts : List Fact) × Contains cases facts × MeetsAll count facts
 
 -- every end meets all facts of one of the cases
+abbrev pub CoverFor : (leaf dead : LeafModel) → List (List Fact) → Type 0
+CoverFor leaf dead cases = (count : Valuation) → IsEndFor leaf dead count → MeetsOne count cases
+
 abbrev pub Cover : LeafModel → List (List Fact) → Type 0
-Cover leaf cases = (count : Valuation) → IsEnd leaf count → MeetsOne count cases
+Cover leaf = CoverFor leaf leaf
+
+-- whatever is dead at the end
+abbrev pub CoverEach : LeafModel → List (List Fact) → Type 0
+CoverEach leaf cases = (dead : LeafModel) → CoverFor leaf dead cases
+
+-- whatever leaf it is the end of
+abbrev pub CoverDead : LeafModel → List (List Fact) → Type 0
+CoverDead dead cases = (leaf : LeafModel) → HaveSamePlaces leaf dead → CoverFor leaf dead cases
 
 -- no counts meet all the facts
 abbrev pub AreRefuted : List Fact → Type 0

@@ -1,12 +1,15 @@
 -- The parts of which rows are made.
-use Rattle.std.specs.Prelude.{ℕ, if◌then◌else◌, List, [], ◌∷◌, ◌++◌, ℤ, pos, negsuc, ◌-ℤ◌, map, take, slice_index_or}
+use Rattle.std.specs.Prelude.{ℕ, Bool, if◌then◌else◌, List, [], ◌∷◌, ◌++◌, ℤ, pos, negsuc, ◌-ℤ◌, map, take, slice_index_or}
 use Rattle.std.specs.Prelude.{◌==◌}
 use Rattle.std.specs.Ordering.{int_eq}
 use Rattle.pop_net.specs.declared.leaf.Move.{Move}
 use Rattle.pop_net.specs.LeafModel.{LeafModel, pre, post}
+use Rattle.pres_ast.specs.PredModel.{PredModel}
 use Rattle.cert_base.specs.declared.fact.Term.{Term}
+use Rattle.cert_base.specs.declared.fact.Fact.{Fact}
+use Rattle.cert_base.specs.declared.fact.Fact.TheVariants.{Holds}
 use Rattle.cert_base.specs.Rows.{terms_from, state_variable, move_variable}
-use Rattle.cert_base.specs.FactsAndCases.{indicator, states_of, is_in}
+use Rattle.cert_base.specs.FactsAndCases.{indicator, states_of, is_in, flow, two_agents_fact}
 use Rattle.std.specs.List.{slice_set}
 
 -- the term of a variable with this coefficient, or none if it is 0
@@ -38,3 +41,7 @@ entered_rows rows state before taken variable =
     if is_in before state
     then rows
     else slice_set rows state (slice_index_or rows state [] ++ term_of variable (change_at state taken))
+
+-- the facts that don't speak of the agents' outputs, or of sets of states
+abbrev pub input_list : LeafModel → PredModel → Bool → List Fact
+input_list leaf p value = map (flow leaf) (states_of leaf) ++ two_agents_fact leaf ∷ Holds p value ∷ []

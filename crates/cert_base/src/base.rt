@@ -4,6 +4,8 @@ ghost use Rattle.std.specs.Prelude.{◌≡◌, ◌<◌, length, map, slice_index
 ghost use Rattle.cert_base.specs.FactsAndCases.{indicator, states_of, differs, base_list};
 ghost use Rattle.cert_base.specs.FactsAndCases.{two_agents_fact, wrong_output_fact};
 ghost use Rattle.cert_base.specs.Ends.{HoldAtWrongEnds};
+ghost use Rattle.cert_base.specs.Parts.{input_list};
+ghost use Rattle.pop_net.specs.LeafModel.{IsLeaf};
 
 use crate::fact::{Fact, Row};
 use crate::flow::flow_facts;
@@ -25,11 +27,25 @@ pub fn base_facts(
     // Every wrong end meets all of them.
     ensures met { IfOk result (HoldAtWrongEnds leaf.now pred.now.tree value) }
 {
+    let mut facts = input_facts(alloc, leaf, pred, value)?;
+    facts.push(wrong_output(alloc, leaf, value)?)?;
+    Ok(List::from_vec(facts))
+}
+
+/// The same without the last one.
+pub(crate) fn input_facts(
+    alloc: Global,
+    leaf: &Leaf,
+    pred: &Pred,
+    value: bool,
+) -> Result<Vec<Fact>, NoMemory>
+    ensures facts { IfOk result (λ facts. facts.items ≡ input_list leaf.now pred.now value) }
+    ensures formed { IsLeaf leaf.now }
+{
     let mut facts = flow_facts(alloc, leaf)?;
     facts.push(two_agents(alloc, leaf)?)?;
     facts.push(Fact::Holds(pred.copy(alloc)?, value))?;
-    facts.push(wrong_output(alloc, leaf, value)?)?;
-    Ok(List::from_vec(facts))
+    Ok(facts)
 }
 
 fn two_agents(alloc: Global, leaf: &Leaf) -> Result<Fact, NoMemory>

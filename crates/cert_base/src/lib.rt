@@ -14,6 +14,7 @@ mod limits;
 mod meet;
 mod node;
 mod open;
+mod outside;
 mod proof;
 mod row;
 mod split;
@@ -33,6 +34,7 @@ pub use limits::{
 pub use meet::can_meet;
 pub use node::Node;
 pub use open::open_cases;
+pub use outside::goal_facts;
 pub use proof::{Goal, LeafProof, Proof};
 pub use split::split_cases;
 pub use stable::{LeafGoals, StablePart, StableProof};

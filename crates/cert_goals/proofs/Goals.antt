@@ -13,6 +13,7 @@ use Rattle.pop_net.specs.Reachable.{Reachable}
 use Rattle.pop_net.proofs.Permutations.{meets_permuted, terminal_permuted}
 use Rattle.cert_base.specs.declared.layer.Layer.{Layer}
 use Rattle.cert_base.specs.ProofBound.{layers_bound}
+use Rattle.cert_base.specs.GoalEnds.{IsWithin, IsWithinOne}
 use Rattle.cert_base.specs.ValidLayers.{moves_of_layers, ValidLayers}
 use Rattle.cert_base.proofs.Dead.{IsEnabledIn}
 use Rattle.cert_base.proofs.InRange.{end_in_range}
@@ -24,7 +25,7 @@ use Rattle.pop_hushed.proofs.Moves.{hushed_formed}
 use Rattle.cert_goals.specs.Stays.{escapes, IsGuarded, SleepIn}
 use Rattle.cert_goals.specs.SomeLayers.{layered}
 use Rattle.cert_goals.specs.SetFaults.{HasOutput, IsGoodSet, AreGoodSets}
-use Rattle.cert_goals.specs.Reached.{IsDeadFor, IsWithin, IsWithinOne, IsEndFor, IsHeld, IsAtGoal}
+use Rattle.cert_goals.specs.Reached.{IsDeadFor, IsGoalEnd, IsHeld, IsAtGoal}
 use Rattle.cert_goals.specs.GoalLaws.{ComesToGoal, GoalsHold}
 use Rattle.cert_goals.proofs.Possible.{dead_none, none_dead, unchanged, was_possible, stay_impossible, stay_within}
 use Rattle.cert_goals.proofs.Ways.{way_of_leaf}
@@ -72,7 +73,7 @@ module _ (leaf : LeafModel) (moves : List ℕ) (sets : List (List ℕ)) where
   }
 
   module _ (start : List ℕ) where
-    end_permuted : (crowd other : List ℕ) → IsEndFor leaf moves start crowd → IsPermutation crowd other → IsEndFor leaf moves start other
+    end_permuted : (crowd other : List ℕ) → IsGoalEnd leaf moves start crowd → IsPermutation crowd other → IsGoalEnd leaf moves start other
     end_permuted crowd other e order = record {
       other = e.other;
       reached = e.reached;
@@ -81,7 +82,7 @@ module _ (leaf : LeafModel) (moves : List ℕ) (sets : List (List ℕ)) where
     }
 
     -- an end in a settled set stays one
-    end_on : (set before after : List ℕ) → IsWithin set before → SleepIn leaf set moves → IsEndFor leaf moves start before → LeafStep leaf before after → IsEndFor leaf moves start after
+    end_on : (set before after : List ℕ) → IsWithin set before → SleepIn leaf set moves → IsGoalEnd leaf moves start before → LeafStep leaf before after → IsGoalEnd leaf moves start after
     end_on set before after within asleep e s = by_change s.change
       where
         dead_after : (m : LeafMove leaf s.x s.y s.x' s.y') → Contains moves m.number ⊎ (¬ Contains moves m.number) → IsDeadFor leaf moves after
@@ -89,7 +90,7 @@ module _ (leaf : LeafModel) (moves : List ℕ) (sets : List (List ℕ)) where
             absurd (dead_none leaf moves before e.dead m.number m.taken (record { kept_is = kept; move_is = m.listed; non_silent = m.non_silent }) (was_possible leaf before after s m))
         dead_after m (inr other) = stay_impossible leaf before after s m set within moves asleep e.dead other
 
-        moved : IsDeadFor leaf moves after → IsEndFor leaf moves start after
+        moved : IsDeadFor leaf moves after → IsGoalEnd leaf moves start after
         moved dead =
             let next = meets_permuted (LeafChange leaf) before after e.other s (IsPermutation-sym e.other before e.order) in
             record {
@@ -99,8 +100,8 @@ module _ (leaf : LeafModel) (moves : List ℕ) (sets : List (List ℕ)) where
               dead = dead;
             }
 
-        by_change : LeafChange leaf s.x s.y s.x' s.y' → IsEndFor leaf moves start after
-        by_change (inl stay) = subst (λ c. IsEndFor leaf moves start c) (sym (unchanged leaf before after s stay)) e
+        by_change : LeafChange leaf s.x s.y s.x' s.y' → IsGoalEnd leaf moves start after
+        by_change (inl stay) = subst (λ c. IsGoalEnd leaf moves start c) (sym (unchanged leaf before after s stay)) e
         by_change (inr m) = moved (dead_after m (listed_cases moves m.number))
 
     pub goal_permuted : (crowd other : List ℕ) → IsAtGoal leaf moves sets start crowd → IsPermutation crowd other → IsAtGoal leaf moves sets start other
@@ -108,7 +109,7 @@ module _ (leaf : LeafModel) (moves : List ℕ) (sets : List (List ℕ)) where
     goal_permuted crowd other (inr held) order = inr (held_permuted crowd other held order)
 
     module _ (value : Bool) (good : AreGoodSets leaf moves value sets) (ends : (end : List ℕ) → Reachable (LeafStep leaf) start end → IsDeadFor leaf moves end → IsWithinOne sets end) where
-      within_one : (crowd : List ℕ) → IsEndFor leaf moves start crowd → IsWithinOne sets crowd
+      within_one : (crowd : List ℕ) → IsGoalEnd leaf moves start crowd → IsWithinOne sets crowd
       within_one crowd e =
           let w = ends e.other e.reached (dead_permuted leaf moves crowd e.other e.dead (IsPermutation-sym e.other crowd e.order)) in
           record { set = w.set; listed = w.listed; within = All-permutation (Contains w.set) e.other crowd e.order w.within }

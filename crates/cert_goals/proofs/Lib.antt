@@ -5,3 +5,4 @@ mod GoodSets
 pub mod Possible
 pub mod Ways
 pub mod Woken
+pub mod ValidGoals

@@ -1,6 +1,6 @@
 -- Crowds in which no move of a set of moves is possible, and what keeps them so.
 use Rattle.std.proofs.Common.{◌≡◌, ◌⊎◌, inl, inr, ℕ, ◌+◌, ◌-◌, ◌≤◌, true, ◌&&◌, List, refl, ap, sym, subst, ◌∙◌, arith}
-use Rattle.std.specs.Prelude.{slice_get, slice_set, All, Contains}
+use Rattle.std.specs.Prelude.{slice_set, Contains}
 use Rattle.std.proofs.lemmas.Bool.{and_from, and_parts, cases_Bool}
 use Rattle.std.proofs.lemmas.List.Elements.{All-set}
 use Rattle.pop_net.specs.declared.leaf.Move.{Move}
@@ -8,6 +8,7 @@ use Rattle.pop_net.specs.LeafModel.{LeafModel, pre, post}
 use Rattle.pop_net.specs.Step.{Follows, LeafMove, LeafStep}
 use Rattle.pop_net.proofs.Quiet.{All-slice_get, set_same}
 use Rattle.cert_base.specs.FactsAndCases.{is_in}
+use Rattle.cert_base.specs.GoalEnds.{IsWithin}
 use Rattle.cert_base.proofs.Agents.{agents_of, enabled_test-true, one_agent}
 use Rattle.cert_base.proofs.Dead.{IsEnabledIn, two_there}
 use Rattle.cert_base.proofs.Numbers.{number_in, number_in-meets, before_pre, after_post}
@@ -15,7 +16,7 @@ use Rattle.pop_hushed.specs.Laws.{IsKeptMove}
 use Rattle.pop_hushed.proofs.Crowds.{terminal_none, none_terminal}
 use Rattle.pop_hushed.proofs.Kept.{kept_listed, listed_kept}
 use Rattle.cert_goals.specs.Stays.{takes_within, escapes, IsRestWithin, SleepIn}
-use Rattle.cert_goals.specs.Reached.{IsDeadFor, IsWithin}
+use Rattle.cert_goals.specs.Reached.{IsDeadFor}
 use Rattle.cert_goals.proofs.Escapes.{is_escape}
 
 module _ (leaf : LeafModel) (moves crowd : List ℕ) where

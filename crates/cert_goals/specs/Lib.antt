@@ -5,3 +5,5 @@ pub mod SetSearch
 pub mod SetTests
 pub mod SomeLayers
 pub mod Stays
+pub mod ValidGoal
+pub mod GoalParts

@@ -1,39 +1,26 @@
 -- Reached: the crowds in which a goal is reached.
-use Rattle.std.specs.Prelude.{◌≡◌, ℕ, Bool, ◌⊎◌, List, length, All, Contains}
+use Rattle.std.specs.Prelude.{ℕ, Bool, ◌⊎◌, List, Contains}
 use Rattle.std.specs.List.Sorted.{IsPermutation}
 use Rattle.pres_ast.specs.PredTree.{PredTree}
-use Rattle.pres_ast.specs.PredicateValue.{predicate_value}
 use Rattle.pop_net.specs.LeafModel.{LeafModel}
-use Rattle.pop_net.specs.InputCrowd.{leaf_input_crowd, IsInput}
 use Rattle.pop_net.specs.Step.{LeafStep}
 use Rattle.pop_net.specs.Reachable.{Reachable}
 use Rattle.pop_net.specs.Terminal.{IsTerminal}
 use Rattle.pop_hushed.specs.Hushed.{hushed}
+use Rattle.cert_base.specs.GoalEnds.{IsWithin, EndsInside}
 use Rattle.cert_goals.specs.Stays.{escapes, IsGuarded}
 
 -- none of these moves is possible
 abbrev pub IsDeadFor : LeafModel → List ℕ → List ℕ → Type 0
 IsDeadFor leaf moves crowd = IsTerminal (LeafStep (hushed leaf moves)) crowd
 
--- all agents are in the set
-abbrev pub IsWithin : List ℕ → List ℕ → Type 0
-IsWithin set crowd = All (Contains set) crowd
-
-pub record IsWithinOne (sets : List (List ℕ)) (crowd : List ℕ) : Type 0 where
-  pub set : List ℕ
-  pub listed : Contains sets set
-  pub within : IsWithin set crowd
-
--- what a tree is to show: from each input at which the predicate has this value, each reachable crowd in which none of
+-- what a tree shows: from each input at which the predicate has this value, each reachable crowd in which none of
 -- these moves is possible has all agents in one of the sets
 abbrev pub EndsWithinOne : LeafModel → List ℕ → PredTree → Bool → List (List ℕ) → Type 0
-EndsWithinOne leaf moves tree value sets =
-    (counts end : List ℕ) → IsInput (length leaf.inputs) (length leaf.helpers) counts
-    → predicate_value tree counts ≡ value
-    → Reachable (LeafStep leaf) (leaf_input_crowd leaf counts) end → IsDeadFor leaf moves end → IsWithinOne sets end
+EndsWithinOne leaf moves = EndsInside leaf (hushed leaf moves)
 
 -- a crowd reached from the start, in some order of its agents, in which none of these moves is possible
-pub record IsEndFor (leaf : LeafModel) (moves start crowd : List ℕ) : Type 0 where
+pub record IsGoalEnd (leaf : LeafModel) (moves start crowd : List ℕ) : Type 0 where
   pub other : List ℕ
   pub reached : Reachable (LeafStep leaf) start other
   pub order : IsPermutation other crowd
@@ -49,4 +36,4 @@ pub record IsHeld (leaf : LeafModel) (moves : List ℕ) (sets : List (List ℕ))
 
 -- the crowds of a goal
 abbrev pub IsAtGoal : LeafModel → List ℕ → List (List ℕ) → List ℕ → List ℕ → Type 0
-IsAtGoal leaf moves sets start crowd = IsEndFor leaf moves start crowd ⊎ IsHeld leaf moves sets crowd
+IsAtGoal leaf moves sets start crowd = IsGoalEnd leaf moves start crowd ⊎ IsHeld leaf moves sets crowd

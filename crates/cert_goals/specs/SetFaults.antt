@@ -3,8 +3,8 @@ use Rattle.std.specs.Prelude.{◌≡◌, ℕ, ◌<◌, ◌≤◌, Bool, List, le
 use Rattle.pop_io.specs.declared.failure.Failure.{Failure}
 use Rattle.pop_io.specs.Failures.{IfFault, OnlyMemory}
 use Rattle.pop_net.specs.LeafModel.{LeafModel}
+use Rattle.cert_base.specs.declared.limits.TheConstants.{SET_LIMIT}
 use Rattle.cert_layers.specs.LayerFaults.{Each, IsFirstFailing}
-use Rattle.cert_goals.specs.declared.limits.TheConstants.{SET_LIMIT}
 use Rattle.cert_goals.specs.declared.fault.SetFault.{SetFault}
 use Rattle.cert_goals.specs.declared.fault.SetFault.TheVariants.{Output, Leaves, Wakes}
 use Rattle.cert_goals.specs.Stays.{escapes, SleepsFor, SleepIn, IsGuardedAt, Stays}

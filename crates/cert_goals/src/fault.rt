@@ -1,4 +1,7 @@
-//! Why sets are not good.
+//! Why sets are not good, and why goals are not valid.
+
+use cert_layers::LayerWhy;
+use cert_tree::TreeFault;
 
 /// The first set that fails, by its place, and why: first outputs, then moves that lead out, then waking.
 #[derive(Clone, Copy, PartialEq, Eq)]
@@ -20,4 +23,12 @@ pub enum SetFault {
         move_number: u32,
         woken: u32,
     },
+}
+
+/// The first part of a goal that isn't valid: first the layers, then the sets in order, then the nodes.
+#[derive(Clone, Copy, PartialEq, Eq)]
+pub enum GoalWhy {
+    Layers(LayerWhy),
+    Set(SetFault),
+    Node(TreeFault),
 }

@@ -1,13 +1,13 @@
-//! Goals: layers of some moves of a leaf, and sets of states that stay once all agents are in them.
-//! It stands on `pop_hushed` and `cert_layers`. A library so far: `check` doesn't call it yet.
-//! The layer above uses: `check_some_layers` and `check_sets` accept exactly what `goals_hold` speaks of.
+//! Goals: layers of some moves of a leaf, sets of states that stay once all agents are in them, and a tree.
+//! It stands on `pop_hushed`, `cert_layers` and `cert_tree`. A library so far: `check` doesn't call it yet.
+//! The layer above uses: `check_goal` accepts exactly valid goals, and `valid_goals_hold` says what they give.
 #![tactic(auto)]
 
 mod escape;
 mod fault;
+mod goal;
 mod law;
 mod layers;
-mod limits;
 mod listed;
 mod members;
 mod outputs;
@@ -16,8 +16,8 @@ mod sleep;
 mod stay;
 mod wake;
 
-pub use fault::SetFault;
-pub use law::goals_hold;
+pub use fault::{GoalWhy, SetFault};
+pub use goal::check_goal;
+pub use law::{goals_hold, valid_goals_hold};
 pub use layers::check_some_layers;
-pub use limits::SET_LIMIT;
 pub use sets::check_sets;

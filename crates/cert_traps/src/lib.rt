@@ -1,6 +1,6 @@
 //! The cases of a proof's nodes that speak of states: present, twin, trap and siphon.
 //! It stands on `cert_base`.
-//! The layer above uses: each list of cases is the defined one, and every terminal end meets one of its cases.
+//! The layer above uses: each list of cases is the defined one, and every end meets one of its cases.
 #![tactic(auto)]
 
 mod facts;

@@ -1,10 +1,10 @@
-//! What a terminal end says of one state.
+//! What an end says of one state.
 
 ghost use Rattle.std.specs.Prelude.{◌≡◌, ◌<◌, ◌∷◌, ◌++◌, ◌==◌, ◌&&◌, not, [], length, map, filter};
 ghost use Rattle.std.specs.Prelude.{if◌then◌else◌, slice_index_or, false, Some, None, IfOk, OnOk, IfSome};
 ghost use Rattle.cert_base.specs.FactsAndCases.{states_of, can_meet_in, absent_fact, occurs_fact};
 ghost use Rattle.cert_base.specs.FactsAndCases.{alone_fact, not_twice, cases_of_present, case_of_twin};
-ghost use Rattle.cert_base.specs.Ends.{Cover, AreCasesBy};
+ghost use Rattle.cert_base.specs.Ends.{CoverDead, AreCasesBy};
 ghost use Rattle.cert_traps.specs.Facts.{alone_if};
 
 use crate::facts::{is_zero, push_zero};
@@ -14,11 +14,12 @@ use pop_io::{List, NoMemory};
 use pop_net::Leaf;
 use std::alloc::Global;
 
-/// The state is absent; or it occurs, and no state does that it could meet.
+/// The state is absent; or it occurs, and no state does that it could meet. Of an end, the leaf is the one that has no
+/// step there.
 pub fn present_cases(alloc: Global, leaf: &Leaf, state: u16) -> Result<List<List<Fact>>, NoMemory>
     requires { state < length leaf.now.states }
-    // Every terminal end meets all facts of one of the cases.
-    ensures { IfOk result (AreCasesBy (Cover leaf.now) (cases_of_present leaf.now state)) }
+    // Every end at which the leaf has no step meets all facts of one of the cases.
+    ensures { IfOk result (AreCasesBy (CoverDead leaf.now) (cases_of_present leaf.now state)) }
 {
     let mut cases = Vec::new(alloc);
     cases.push(only(alloc, absence_of(alloc, leaf, state)?)?)?;
@@ -30,8 +31,8 @@ pub fn present_cases(alloc: Global, leaf: &Leaf, state: u16) -> Result<List<List
 pub fn twin_case(alloc: Global, leaf: &Leaf, state: u16) -> Result<Option<List<Fact>>, NoMemory>
     requires { state < length leaf.now.states }
     ensures case { IfOk result (λ case. case ≡ case_of_twin leaf.now state) }
-    // Every terminal end meets all its facts.
-    ensures cover { IfOk result (λ case. IfSome case (λ facts. Cover leaf.now (facts ∷ []))) }
+    // Every end at which the leaf has no step meets all its facts.
+    ensures cover { IfOk result (λ case. IfSome case (λ facts. CoverDead leaf.now (facts ∷ []))) }
 {
     let partners = partners(alloc, leaf, state)?;
     twin(alloc, leaf, state, partners[usize::from(state)])

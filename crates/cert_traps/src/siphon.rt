@@ -6,7 +6,7 @@ ghost use Rattle.cert_base.specs.declared.fact.Fact.TheVariants.{Ge, Eq};
 ghost use Rattle.cert_base.specs.Rows.{input_row};
 ghost use Rattle.cert_base.specs.FactsAndCases.{indicator, is_in, helpers_among, takes_from, no_moves};
 ghost use Rattle.cert_base.specs.FactsAndCases.{some_taken_fact, count_row, cases_of_siphon};
-ghost use Rattle.cert_base.specs.Ends.{Cover, AreCasesBy};
+ghost use Rattle.cert_base.specs.Ends.{CoverEach, AreCasesBy};
 ghost use Rattle.cert_traps.specs.Roles.{passes_role};
 ghost use Rattle.cert_traps.specs.declared.role.Role.TheVariants.{Enters};
 
@@ -25,8 +25,8 @@ pub fn siphon_cases(
     leaf: &Leaf,
     set: &List<u16>,
 ) -> Result<List<List<Fact>>, NoMemory>
-    // Every terminal end meets all facts of one of the cases.
-    ensures { IfOk result (AreCasesBy (Cover leaf.now) (cases_of_siphon leaf.now set.now)) }
+    // Every end meets all facts of one of the cases.
+    ensures { IfOk result (AreCasesBy (CoverEach leaf.now) (cases_of_siphon leaf.now set.now)) }
 {
     let set = StateSet::new(alloc, set)?;
     // What the invariant says is known from here on.

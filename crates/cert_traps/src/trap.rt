@@ -5,7 +5,7 @@ ghost use Rattle.pop_net.specs.LeafModel.{IsLeaf};
 ghost use Rattle.cert_base.specs.declared.fact.Fact.TheVariants.{Ge, Eq};
 ghost use Rattle.cert_base.specs.FactsAndCases.{no_moves, no_start_facts, no_helper_facts};
 ghost use Rattle.cert_base.specs.FactsAndCases.{some_taken_fact, count_row, puts_into, cases_of_trap};
-ghost use Rattle.cert_base.specs.Ends.{Cover, AreCasesBy};
+ghost use Rattle.cert_base.specs.Ends.{CoverEach, AreCasesBy};
 ghost use Rattle.cert_traps.specs.Roles.{passes_role};
 ghost use Rattle.cert_traps.specs.declared.role.Role.TheVariants.{Leaves};
 
@@ -19,8 +19,8 @@ use std::alloc::Global;
 
 /// The set is no trap; or it was never marked; or it is marked at the end.
 pub fn trap_cases(alloc: Global, leaf: &Leaf, set: &List<u16>) -> Result<List<List<Fact>>, NoMemory>
-    // Every terminal end meets all facts of one of the cases.
-    ensures { IfOk result (AreCasesBy (Cover leaf.now) (cases_of_trap leaf.now set.now)) }
+    // Every end meets all facts of one of the cases.
+    ensures { IfOk result (AreCasesBy (CoverEach leaf.now) (cases_of_trap leaf.now set.now)) }
 {
     let set = StateSet::new(alloc, set)?;
     // What the invariant says is known from here on.

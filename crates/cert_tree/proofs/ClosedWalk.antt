@@ -8,15 +8,15 @@ use Rattle.pres_ast.specs.PredModel.{PredModel}
 use Rattle.cert_base.specs.declared.fact.Fact.{Fact}
 use Rattle.cert_base.specs.declared.node.Node.{Node}
 use Rattle.cert_base.specs.FactsAndCases.{base_list}
-use Rattle.cert_base.specs.Closes.{MayStand, ClosesUnder, refuted, by_cases, ClosesEach, no_case, next_case, Closes}
+use Rattle.cert_base.specs.Closes.{MayStand, ClosesUnderFor, refuted, by_cases, ClosesEachFor, no_case, next_case, ClosesFor, Closes}
 use Rattle.cert_tree.specs.declared.fault.TreeWhy.{TreeWhy}
-use Rattle.cert_tree.specs.Refusals.{cases_at, all_fit, refusal, Waiting, cases_below, go_on, first_from, first_refused}
+use Rattle.cert_tree.specs.Refusals.{cases_at, all_fit, refusal, Waiting, cases_below, go_on, first_from, first_for, first_refused}
 use Rattle.cert_tree.proofs.Passing.{Passes, unrefused-passes, refuting-unrefused, dividing-unrefused}
 
 -- the nodes close all cases that wait, and nothing is left
-pub data ClosesAll (leaf : LeafModel) : (waiting : List Waiting) (nodes : List Node) → Type 0 where
-  none_waits : ClosesAll leaf [] []
-  one_waits : (above : ℕ) (facts : List Fact) (waiting : List Waiting) (nodes rest : List Node) → ClosesUnder leaf above facts nodes rest → ClosesAll leaf waiting rest → ClosesAll leaf ((above, facts) ∷ waiting) nodes
+pub data ClosesAll (leaf dead : LeafModel) : (waiting : List Waiting) (nodes : List Node) → Type 0 where
+  none_waits : ClosesAll leaf dead [] []
+  one_waits : (above : ℕ) (facts : List Fact) (waiting : List Waiting) (nodes rest : List Node) → ClosesUnderFor leaf dead above facts nodes rest → ClosesAll leaf dead waiting rest → ClosesAll leaf dead ((above, facts) ∷ waiting) nodes
 
 -- each case has few enough facts
 abbrev AllFew : List Waiting → Type 0
@@ -32,25 +32,25 @@ few_below above facts (own ∷ cases) waiting e few =
     (rw (length-append facts own) (leb-true (length facts + length own) 65536 (and_left _ _ e)), few_below above facts cases waiting (and_right (nat_le (length facts + length own) 65536) _ e) few)
 
 -- the cases of a node close one after the other, and then those that waited before
-pub record ClosesThen (leaf : LeafModel) (above : ℕ) (facts : List Fact) (cases : List (List Fact)) (waiting : List Waiting) (nodes : List Node) : Type 0 where
+pub record ClosesThen (leaf dead : LeafModel) (above : ℕ) (facts : List Fact) (cases : List (List Fact)) (waiting : List Waiting) (nodes : List Node) : Type 0 where
   pub between : List Node
-  pub each : ClosesEach leaf above facts cases nodes between
-  pub others : ClosesAll leaf waiting between
+  pub each : ClosesEachFor leaf dead above facts cases nodes between
+  pub others : ClosesAll leaf dead waiting between
 
-abbrev AllInverse : LeafModel → List Waiting → List Node → Type 0
-AllInverse leaf [] nodes = nodes ≡ []
-AllInverse leaf (at ∷ waiting) nodes = (rest : List Node) × ClosesUnder leaf at.0 at.1 nodes rest × ClosesAll leaf waiting rest
+abbrev AllInverse : (leaf dead : LeafModel) → List Waiting → List Node → Type 0
+AllInverse leaf dead [] nodes = nodes ≡ []
+AllInverse leaf dead (at ∷ waiting) nodes = (rest : List Node) × ClosesUnderFor leaf dead at.0 at.1 nodes rest × ClosesAll leaf dead waiting rest
 
-all_inverse : {leaf : LeafModel} {waiting : List Waiting} {nodes : List Node} → ClosesAll leaf waiting nodes → AllInverse leaf waiting nodes
+all_inverse : {leaf dead : LeafModel} {waiting : List Waiting} {nodes : List Node} → ClosesAll leaf dead waiting nodes → AllInverse leaf dead waiting nodes
 all_inverse none_waits = refl
 all_inverse (one_waits above facts waiting nodes rest first others) = (rest, first, others)
 
-each_then : (leaf : LeafModel) (above : ℕ) (facts : List Fact) (cases : List (List Fact)) (waiting : List Waiting) (nodes : List Node) → ClosesAll leaf (below_of above facts cases ++ waiting) nodes → ClosesThen leaf above facts cases waiting nodes
-each_then leaf above facts [] waiting nodes h =
+each_then : (leaf dead : LeafModel) (above : ℕ) (facts : List Fact) (cases : List (List Fact)) (waiting : List Waiting) (nodes : List Node) → ClosesAll leaf dead (below_of above facts cases ++ waiting) nodes → ClosesThen leaf dead above facts cases waiting nodes
+each_then leaf dead above facts [] waiting nodes h =
     record { between = nodes; each = no_case above facts nodes; others = h }
-each_then leaf above facts (own ∷ cases) waiting nodes h =
+each_then leaf dead above facts (own ∷ cases) waiting nodes h =
     let first = all_inverse h in
-    let rest = each_then leaf above facts cases waiting first.0 first.2 in
+    let rest = each_then leaf dead above facts cases waiting first.0 first.2 in
     record {
       between = rest.between;
       each = next_case above facts own cases nodes first.0 rest.between first.1 rest.each;
@@ -61,53 +61,53 @@ go_on_none : (why : Option TreeWhy) (number : ℕ) (later : Option (ℕ × TreeW
 go_on_none None number later e = (refl, e)
 go_on_none (Some why) number later e = cc
 
-first_closes : (leaf : LeafModel) (above : ℕ) (facts : List Fact) (waiting : List Waiting) (node : Node) (nodes : List Node) → Passes leaf above facts node → length facts ≤ 65536 → ClosesAll leaf (cases_below leaf (above, facts) node ++ waiting) nodes → ClosesAll leaf ((above, facts) ∷ waiting) (node ∷ nodes)
-first_closes leaf above facts waiting node nodes passes few h =
+first_closes : (leaf dead : LeafModel) (above : ℕ) (facts : List Fact) (waiting : List Waiting) (node : Node) (nodes : List Node) → Passes leaf dead above facts node → length facts ≤ 65536 → ClosesAll leaf dead (cases_below leaf dead (above, facts) node ++ waiting) nodes → ClosesAll leaf dead ((above, facts) ∷ waiting) (node ∷ nodes)
+first_closes leaf dead above facts waiting node nodes passes few h =
     let limits : MayStand above facts = record { depth = passes.depth; fact_count = few } in
     elim passes.ways [
-      | inl r ↦ one_waits above facts waiting (node ∷ nodes) nodes (refuted above facts node nodes limits r.0) (let h' : ClosesAll leaf (below_of (above + 1) facts [] ++ waiting) nodes = rw r.1 at h in h')
+      | inl r ↦ one_waits above facts waiting (node ∷ nodes) nodes (refuted above facts node nodes limits r.0) (let h' : ClosesAll leaf dead (below_of (above + 1) facts [] ++ waiting) nodes = rw r.1 at h in h')
       | inr d ↦
-          let then = each_then leaf (above + 1) facts (cases_at leaf facts node) waiting nodes h in
-          one_waits above facts waiting (node ∷ nodes) then.between (by_cases above facts node nodes then.between (cases_at leaf facts node) limits d then.each) then.others
+          let then = each_then leaf dead (above + 1) facts (cases_at leaf dead facts node) waiting nodes h in
+          one_waits above facts waiting (node ∷ nodes) then.between (by_cases above facts node nodes then.between (cases_at leaf dead facts node) limits d then.each) then.others
     ]
 
 -- if no node is refused, the nodes close
-pub unrefused-closes : (leaf : LeafModel) (nodes : List Node) (waiting : List Waiting) (number : ℕ) → AllFew waiting → first_from leaf waiting number nodes ≡ None → ClosesAll leaf waiting nodes
-unrefused-closes leaf [] [] number few e = none_waits
-unrefused-closes leaf [] (at ∷ waiting) number few e = cc
-unrefused-closes leaf (node ∷ nodes) [] number few e = cc
-unrefused-closes leaf (node ∷ nodes) (at ∷ waiting) number few e =
-    let passes = go_on_none (refusal leaf at.0 at.1 node) number _ e in
-    let fit = (unrefused-passes leaf at.0 at.1 node passes.0).fit in
-    first_closes leaf at.0 at.1 waiting node nodes (unrefused-passes leaf at.0 at.1 node passes.0) few.0
-    (unrefused-closes leaf nodes (cases_below leaf at node ++ waiting) (number + 1) (few_below (at.0 + 1) at.1 (cases_at leaf at.1 node) waiting fit few.1) passes.1)
+pub unrefused-closes : (leaf dead : LeafModel) (nodes : List Node) (waiting : List Waiting) (number : ℕ) → AllFew waiting → first_from leaf dead waiting number nodes ≡ None → ClosesAll leaf dead waiting nodes
+unrefused-closes leaf dead [] [] number few e = none_waits
+unrefused-closes leaf dead [] (at ∷ waiting) number few e = cc
+unrefused-closes leaf dead (node ∷ nodes) [] number few e = cc
+unrefused-closes leaf dead (node ∷ nodes) (at ∷ waiting) number few e =
+    let passes = go_on_none (refusal leaf dead at.0 at.1 node) number _ e in
+    let fit = (unrefused-passes leaf dead at.0 at.1 node passes.0).fit in
+    first_closes leaf dead at.0 at.1 waiting node nodes (unrefused-passes leaf dead at.0 at.1 node passes.0) few.0
+    (unrefused-closes leaf dead nodes (cases_below leaf dead at node ++ waiting) (number + 1) (few_below (at.0 + 1) at.1 (cases_at leaf dead at.1 node) waiting fit few.1) passes.1)
 
 -- ---- if the nodes close, no node is refused
 
 -- the same node is refused first, whether one starts here or at the rest
-abbrev Same : LeafModel → List Waiting → List Node → List Waiting → List Node → Type 0
-Same leaf before nodes after rest = (number : ℕ) → (later : ℕ) × (first_from leaf before number nodes ≡ first_from leaf after later rest)
+abbrev Same : (leaf dead : LeafModel) → List Waiting → List Node → List Waiting → List Node → Type 0
+Same leaf dead before nodes after rest = (number : ℕ) → (later : ℕ) × (first_from leaf dead before number nodes ≡ first_from leaf dead after later rest)
 
-each_fits : {leaf : LeafModel} {above : ℕ} {facts : List Fact} {cases : List (List Fact)} {nodes rest : List Node} → ClosesEach leaf above facts cases nodes rest → all_fit facts cases ≡ true
+each_fits : {leaf dead : LeafModel} {above : ℕ} {facts : List Fact} {cases : List (List Fact)} {nodes rest : List Node} → ClosesEachFor leaf dead above facts cases nodes rest → all_fit facts cases ≡ true
 each_fits (no_case above facts rest) = refl
 each_fits (next_case above facts own cases nodes between rest first others) =
     rw (le-leb (length facts + length own) 65536 (rw (length-append facts own) at (few_of first)), each_fits others) refl
   where
-    few_of : {leaf : LeafModel} {above : ℕ} {facts : List Fact} {nodes rest : List Node} → ClosesUnder leaf above facts nodes rest → length facts ≤ 65536
+    few_of : {leaf dead : LeafModel} {above : ℕ} {facts : List Fact} {nodes rest : List Node} → ClosesUnderFor leaf dead above facts nodes rest → length facts ≤ 65536
     few_of (refuted above facts node rest limits r) = limits.fact_count
     few_of (by_cases above facts node nodes rest cases limits c each) = limits.fact_count
 
 mutual
-  closes-same : {leaf : LeafModel} {above : ℕ} {facts : List Fact} {nodes rest : List Node} → ClosesUnder leaf above facts nodes rest → (waiting : List Waiting) → Same leaf ((above, facts) ∷ waiting) nodes waiting rest
-  closes-same {leaf} (refuted above facts node rest limits r) waiting number =
-      let h = refuting-unrefused leaf above facts node limits r in
+  closes-same : {leaf dead : LeafModel} {above : ℕ} {facts : List Fact} {nodes rest : List Node} → ClosesUnderFor leaf dead above facts nodes rest → (waiting : List Waiting) → Same leaf dead ((above, facts) ∷ waiting) nodes waiting rest
+  closes-same {leaf} {dead} (refuted above facts node rest limits r) waiting number =
+      let h = refuting-unrefused leaf dead above facts node limits r in
       (number + 1, rw (h.0, h.1) refl)
-  closes-same {leaf} (by_cases above facts node nodes rest cases limits c each) waiting number =
-      let h = dividing-unrefused leaf above facts node cases limits c (each_fits each) in
+  closes-same {leaf} {dead} (by_cases above facts node nodes rest cases limits c each) waiting number =
+      let h = dividing-unrefused leaf dead above facts node cases limits c (each_fits each) in
       let later = each-same each waiting (number + 1) in
       (later.0, rw (h.0, h.1) later.1)
 
-  each-same : {leaf : LeafModel} {above : ℕ} {facts : List Fact} {cases : List (List Fact)} {nodes rest : List Node} → ClosesEach leaf above facts cases nodes rest → (waiting : List Waiting) → Same leaf (below_of above facts cases ++ waiting) nodes waiting rest
+  each-same : {leaf dead : LeafModel} {above : ℕ} {facts : List Fact} {cases : List (List Fact)} {nodes rest : List Node} → ClosesEachFor leaf dead above facts cases nodes rest → (waiting : List Waiting) → Same leaf dead (below_of above facts cases ++ waiting) nodes waiting rest
   each-same (no_case above facts rest) waiting number = (number, refl)
   each-same (next_case above facts own cases nodes between rest first others) waiting number =
       let here = closes-same first (below_of above facts cases ++ waiting) number in
@@ -116,11 +116,17 @@ mutual
 
 -- ---- the whole tree
 
-pub unrefused-Closes : (leaf : LeafModel) (p : PredModel) (value : Bool) (nodes : List Node) → length (base_list leaf p value) ≤ 65536 → first_refused leaf p value nodes ≡ None → Closes leaf (base_list leaf p value) nodes []
-unrefused-Closes leaf p value nodes few e =
-    let h = all_inverse (unrefused-closes leaf nodes ((0, base_list leaf p value) ∷ []) 0 (few, tt) e) in
+pub unrefused-ClosesFor : (leaf dead : LeafModel) (facts : List Fact) (nodes : List Node) → length facts ≤ 65536 → first_for leaf dead facts nodes ≡ None → ClosesFor leaf dead facts nodes []
+unrefused-ClosesFor leaf dead facts nodes few e =
+    let h = all_inverse (unrefused-closes leaf dead nodes ((0, facts) ∷ []) 0 (few, tt) e) in
     let none : h.0 ≡ [] = all_inverse h.2 in
     rw none at h.1
 
+pub ClosesFor-unrefused : (leaf dead : LeafModel) (facts : List Fact) (nodes : List Node) → ClosesFor leaf dead facts nodes [] → first_for leaf dead facts nodes ≡ None
+ClosesFor-unrefused leaf dead facts nodes h = (closes-same h [] 0).1
+
+pub unrefused-Closes : (leaf : LeafModel) (p : PredModel) (value : Bool) (nodes : List Node) → length (base_list leaf p value) ≤ 65536 → first_refused leaf p value nodes ≡ None → Closes leaf (base_list leaf p value) nodes []
+unrefused-Closes leaf p value nodes few e = unrefused-ClosesFor leaf leaf (base_list leaf p value) nodes few e
+
 pub Closes-unrefused : (leaf : LeafModel) (p : PredModel) (value : Bool) (nodes : List Node) → Closes leaf (base_list leaf p value) nodes [] → first_refused leaf p value nodes ≡ None
-Closes-unrefused leaf p value nodes h = (closes-same h [] 0).1
+Closes-unrefused leaf p value nodes h = ClosesFor-unrefused leaf leaf (base_list leaf p value) nodes h

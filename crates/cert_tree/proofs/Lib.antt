@@ -1,4 +1,5 @@
 pub mod Passing
+pub mod Formats
 pub mod ClosedWalk
 pub mod Rooms
 pub mod Stacks
@@ -7,3 +8,6 @@ pub mod Ordered
 pub mod Visits
 pub mod Starts
 pub mod Verdicts
+pub mod ClosedEnds
+pub mod Inside
+pub mod Trees

@@ -16,7 +16,7 @@ use Rattle.cert_base.specs.declared.fact.Fact.TheVariants.{Ge, Eq, Cong, NotCong
 use Rattle.cert_base.specs.declared.node.Node.{Node}
 use Rattle.cert_base.specs.declared.node.Node.TheVariants.{Linear, Residue, Split, Present, Twin, Trap, Siphon, Open}
 use Rattle.cert_base.specs.Rows.{constant_row, terms_from, single_row, input_row, state_row, zeros, input_variable, state_variable, move_variable, variable_count}
-use Rattle.cert_base.specs.FactsAndCases.{helpers_starting, helpers_among, no_helper_facts, indicator, states_of, flow, two_agents_fact, differs, wrong_output_fact, base_list, absent_fact, occurs_fact, alone_fact, not_twice, can_meet_in, cases_of_present, is_in, takes_from, puts_into, places_from, no_moves, no_start_facts, some_taken_fact, count_row, cases_of_trap, cases_of_siphon, plus, negated_row, signs_of, without_zeros, cases_of_split, over_count, open_tree}
+use Rattle.cert_base.specs.FactsAndCases.{helpers_starting, helpers_among, no_helper_facts, indicator, states_of, flow, two_agents_fact, differs, wrong_output_fact, base_list, outside_fact, goal_list, absent_fact, occurs_fact, alone_fact, not_twice, can_meet_in, cases_of_present, is_in, takes_from, puts_into, places_from, no_moves, no_start_facts, some_taken_fact, count_row, cases_of_trap, cases_of_siphon, plus, negated_row, signs_of, without_zeros, cases_of_split, over_count, open_tree}
 use Rattle.cert_base.specs.Closes.{name_below, where_in_range, opened, only_case}
 use Rattle.cert_linear.specs.Conditions.{AreAscending, IsOrdered}
 use Rattle.cert_tree.specs.Refusals.{cases_at}
@@ -165,6 +165,22 @@ base_ordered leaf p value =
     (more_facts (two_agents_fact leaf) (Holds p value ∷ wrong_output_fact leaf value ∷ []) (two_ordered leaf)
     (more_facts (Holds p value) (wrong_output_fact leaf value ∷ []) (holds_ordered p value) (one_fact (wrong_output_fact leaf value) (wrong_ordered leaf value))))
 
+outside_ordered : (leaf : LeafModel) (set : List ℕ) → HasOrder (outside_fact leaf set)
+outside_ordered leaf set =
+    over_states leaf (map (λ q. indicator (not (is_in set q))) (states_of leaf)) (negsuc 0)
+
+all_outside_ordered : (leaf : LeafModel) (sets : List (List ℕ)) → AllOrdered (map (outside_fact leaf) sets)
+all_outside_ordered leaf [] = no_fact
+all_outside_ordered leaf (set ∷ sets) =
+    more_facts (outside_fact leaf set) (map (outside_fact leaf) sets) (outside_ordered leaf set) (all_outside_ordered leaf sets)
+
+pub goal_ordered : (leaf : LeafModel) (p : PredModel) (value : Bool) (sets : List (List ℕ)) → AllOrdered (goal_list leaf p value sets)
+goal_ordered leaf p value sets =
+    append_ordered (map (flow leaf) (states_of leaf)) (two_agents_fact leaf ∷ Holds p value ∷ map (outside_fact leaf) sets)
+    (map_ordered (flow leaf) (states_of leaf) (flow_ordered leaf))
+    (more_facts (two_agents_fact leaf) (Holds p value ∷ map (outside_fact leaf) sets) (two_ordered leaf)
+    (more_facts (Holds p value) (map (outside_fact leaf) sets) (holds_ordered p value) (all_outside_ordered leaf sets)))
+
 absent_ordered : (leaf : LeafModel) (q : ℕ) → HasOrder (absent_fact leaf q)
 absent_ordered leaf q = single_eq (state_variable leaf q) (pos 1) (pos 0)
 
@@ -275,12 +291,12 @@ opened_ordered (Some (NotCong row m)) = no_case
 opened_ordered (Some (Holds p b)) = open_ordered p.variables p.tree b
 
 -- the cases of a node within the format
-pub cases_ordered : (leaf : LeafModel) (facts : List Fact) (node : Node) → IsWithinFormat node → CasesOrdered (cases_at leaf facts node)
-cases_ordered leaf facts (Linear terms) within = no_case
-cases_ordered leaf facts (Residue m terms) within = no_case
-cases_ordered leaf facts (Split row) within = where_ordered (name_below (variable_count leaf) row.terms) (cases_of_split row) (split_ordered row within.0)
-cases_ordered leaf facts (Present p) within = where_ordered (nat_lt p (length leaf.states)) (cases_of_present leaf p) (present_ordered leaf p)
-cases_ordered leaf facts (Twin p) within = twin_ordered leaf p (nat_lt p (length leaf.states)) (can_meet_in leaf p p)
-cases_ordered leaf facts (Trap set) within = where_ordered (list_all (λ q. nat_lt q (length leaf.states)) set) (cases_of_trap leaf set) (trap_ordered leaf set)
-cases_ordered leaf facts (Siphon set) within = where_ordered (list_all (λ q. nat_lt q (length leaf.states)) set) (cases_of_siphon leaf set) (siphon_ordered leaf set)
-cases_ordered leaf facts (Open f) within = opened_ordered (slice_get facts f)
+pub cases_ordered : (leaf dead : LeafModel) (facts : List Fact) (node : Node) → IsWithinFormat node → CasesOrdered (cases_at leaf dead facts node)
+cases_ordered leaf dead facts (Linear terms) within = no_case
+cases_ordered leaf dead facts (Residue m terms) within = no_case
+cases_ordered leaf dead facts (Split row) within = where_ordered (name_below (variable_count leaf) row.terms) (cases_of_split row) (split_ordered row within.0)
+cases_ordered leaf dead facts (Present p) within = where_ordered (nat_lt p (length leaf.states)) (cases_of_present dead p) (present_ordered dead p)
+cases_ordered leaf dead facts (Twin p) within = twin_ordered dead p (nat_lt p (length leaf.states)) (can_meet_in dead p p)
+cases_ordered leaf dead facts (Trap set) within = where_ordered (list_all (λ q. nat_lt q (length leaf.states)) set) (cases_of_trap leaf set) (trap_ordered leaf set)
+cases_ordered leaf dead facts (Siphon set) within = where_ordered (list_all (λ q. nat_lt q (length leaf.states)) set) (cases_of_siphon leaf set) (siphon_ordered leaf set)
+cases_ordered leaf dead facts (Open f) within = opened_ordered (slice_get facts f)

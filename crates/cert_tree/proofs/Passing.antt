@@ -12,14 +12,14 @@ use Rattle.cert_base.specs.declared.node.Node.{Node}
 use Rattle.cert_base.specs.declared.node.Node.TheVariants.{Linear, Residue, Split, Present, Twin, Trap, Siphon, Open}
 use Rattle.cert_base.specs.FactsAndCases.{can_meet_in}
 use Rattle.cert_base.specs.ClosingTests.{may_have, all_named, may_add, may_add_modulo}
-use Rattle.cert_base.specs.Closes.{name_below, refutes, cases_of, where_in_range, opened, only_case, MayStand}
+use Rattle.cert_base.specs.Closes.{name_below, refutes, cases_for, where_in_range, opened, only_case, MayStand}
 use Rattle.cert_tree.specs.declared.fault.TreeWhy.{TreeWhy}
 use Rattle.cert_tree.specs.declared.fault.TreeWhy.TheVariants.{TooDeep, BadIndex, NoTwin, NotOpen, NotClosed, TooManyFacts}
 use Rattle.cert_tree.specs.Refusals.{names_in_range, has_twin, is_holds, opens_holds, refutes_facts, cases_at, all_fit, own_refusal, or_else, refusal}
 
 -- the node refutes the facts and has no case, or it has these cases
-abbrev pub RefutesOrDivides : LeafModel → List Fact → Node → Type 0
-RefutesOrDivides leaf facts node = ((refutes facts node ≡ true) × (cases_at leaf facts node ≡ [])) ⊎ (cases_of leaf facts node ≡ Some (cases_at leaf facts node))
+abbrev pub RefutesOrDivides : (leaf dead : LeafModel) → List Fact → Node → Type 0
+RefutesOrDivides leaf dead facts node = ((refutes facts node ≡ true) × (cases_at leaf dead facts node ≡ [])) ⊎ (cases_for leaf dead facts node ≡ Some (cases_at leaf dead facts node))
 
 -- ---- nested tests
 
@@ -39,8 +39,8 @@ whole_test false b own e = cc
 
 -- ---- a node that passes its own tests
 
-twin_at : (leaf : LeafModel) (facts : List Fact) (p : ℕ) → nat_lt p (length leaf.states) ≡ true → can_meet_in leaf p p ≡ true → RefutesOrDivides leaf facts (Twin p)
-twin_at leaf facts p e f = inr (rw (e, f) refl)
+twin_at : (leaf dead : LeafModel) (facts : List Fact) (p : ℕ) → nat_lt p (length leaf.states) ≡ true → can_meet_in dead p p ≡ true → RefutesOrDivides leaf dead facts (Twin p)
+twin_at leaf dead facts p e f = inr (rw (e, f) refl)
 
 open_at : (leaf : LeafModel) (facts : List Fact) (f : ℕ) (o : Option Fact) → slice_get facts f ≡ o → is_holds o ≡ true → opened o ≡ Some (unwrap_or (opened o) [])
 open_at leaf facts f None h e = cc
@@ -50,29 +50,29 @@ open_at leaf facts f (Some (Cong row m)) h e = cc
 open_at leaf facts f (Some (NotCong row m)) h e = cc
 open_at leaf facts f (Some (Holds p b)) h e = refl
 
-pub passes-own : (leaf : LeafModel) (facts : List Fact) (node : Node) → (names_in_range leaf facts node ≡ true) × (has_twin leaf node ≡ true) × (opens_holds facts node ≡ true) × (refutes_facts facts node ≡ true) → RefutesOrDivides leaf facts node
-passes-own leaf facts (Linear terms) h = inl (h.3, refl)
-passes-own leaf facts (Residue m terms) h = inl (h.3, refl)
-passes-own leaf facts (Split row) h = inr (rw h.0 refl)
-passes-own leaf facts (Present p) h = inr (rw h.0 refl)
-passes-own leaf facts (Twin p) h = twin_at leaf facts p h.0 h.1
-passes-own leaf facts (Trap set) h = inr (rw h.0 refl)
-passes-own leaf facts (Siphon set) h = inr (rw h.0 refl)
-passes-own leaf facts (Open f) h = inr (open_at leaf facts f (slice_get facts f) refl h.2)
+pub passes-own : (leaf dead : LeafModel) (facts : List Fact) (node : Node) → (names_in_range leaf facts node ≡ true) × (has_twin dead node ≡ true) × (opens_holds facts node ≡ true) × (refutes_facts facts node ≡ true) → RefutesOrDivides leaf dead facts node
+passes-own leaf dead facts (Linear terms) h = inl (h.3, refl)
+passes-own leaf dead facts (Residue m terms) h = inl (h.3, refl)
+passes-own leaf dead facts (Split row) h = inr (rw h.0 refl)
+passes-own leaf dead facts (Present p) h = inr (rw h.0 refl)
+passes-own leaf dead facts (Twin p) h = twin_at leaf dead facts p h.0 h.1
+passes-own leaf dead facts (Trap set) h = inr (rw h.0 refl)
+passes-own leaf dead facts (Siphon set) h = inr (rw h.0 refl)
+passes-own leaf dead facts (Open f) h = inr (open_at leaf facts f (slice_get facts f) refl h.2)
 
 -- what a node that isn't refused is
-pub record Passes (leaf : LeafModel) (above : ℕ) (facts : List Fact) (node : Node) : Type 0 where
+pub record Passes (leaf dead : LeafModel) (above : ℕ) (facts : List Fact) (node : Node) : Type 0 where
   pub depth : above < 4096
-  pub fit : all_fit facts (cases_at leaf facts node) ≡ true
-  pub ways : RefutesOrDivides leaf facts node
+  pub fit : all_fit facts (cases_at leaf dead facts node) ≡ true
+  pub ways : RefutesOrDivides leaf dead facts node
 
-pub unrefused-passes : (leaf : LeafModel) (above : ℕ) (facts : List Fact) (node : Node) → refusal leaf above facts node ≡ None → Passes leaf above facts node
-unrefused-passes leaf above facts node e =
-    let whole = whole_test (nat_lt above 4096) (all_fit facts (cases_at leaf facts node)) (own_refusal leaf facts node) e in
+pub unrefused-passes : (leaf dead : LeafModel) (above : ℕ) (facts : List Fact) (node : Node) → refusal leaf dead above facts node ≡ None → Passes leaf dead above facts node
+unrefused-passes leaf dead above facts node e =
+    let whole = whole_test (nat_lt above 4096) (all_fit facts (cases_at leaf dead facts node)) (own_refusal leaf dead facts node) e in
     record {
       depth = ltb-true above 4096 whole.0;
       fit = whole.1;
-      ways = passes-own leaf facts node (first_test (names_in_range leaf facts node) (has_twin leaf node) (opens_holds facts node) (refutes_facts facts node) whole.2);
+      ways = passes-own leaf dead facts node (first_test (names_in_range leaf facts node) (has_twin dead node) (opens_holds facts node) (refutes_facts facts node) whole.2);
     }
 
 -- ---- a node that refutes or divides is not refused by its own tests
@@ -88,20 +88,20 @@ named_below_by may facts (t ∷ terms) e =
     there (Some fact) h f = lt-ltb t.at (length facts) (slice_get_within facts t.at fact h)
 
 -- all four tests are passed
-abbrev PassesOwn : LeafModel → List Fact → Node → Type 0
-PassesOwn leaf facts node = (names_in_range leaf facts node ≡ true) × (has_twin leaf node ≡ true) × (opens_holds facts node ≡ true) × (refutes_facts facts node ≡ true)
+abbrev PassesOwn : (leaf dead : LeafModel) → List Fact → Node → Type 0
+PassesOwn leaf dead facts node = (names_in_range leaf facts node ≡ true) × (has_twin dead node ≡ true) × (opens_holds facts node ≡ true) × (refutes_facts facts node ≡ true)
 
-refutes-passes : (leaf : LeafModel) (facts : List Fact) (node : Node) → refutes facts node ≡ true → PassesOwn leaf facts node × (cases_at leaf facts node ≡ [])
-refutes-passes leaf facts (Linear terms) e =
+refutes-passes : (leaf dead : LeafModel) (facts : List Fact) (node : Node) → refutes facts node ≡ true → PassesOwn leaf dead facts node × (cases_at leaf dead facts node ≡ [])
+refutes-passes leaf dead facts (Linear terms) e =
     ((named_below_by may_add facts terms (and_left (all_named may_add facts terms) _ (and_left (all_named may_add facts terms && _) _ e)), refl, refl, e), refl)
-refutes-passes leaf facts (Residue m terms) e =
+refutes-passes leaf dead facts (Residue m terms) e =
     ((named_below_by (may_add_modulo m) facts terms (and_left _ _ e), refl, refl, e), refl)
-refutes-passes leaf facts (Split row) e = cc
-refutes-passes leaf facts (Present p) e = cc
-refutes-passes leaf facts (Twin p) e = cc
-refutes-passes leaf facts (Trap set) e = cc
-refutes-passes leaf facts (Siphon set) e = cc
-refutes-passes leaf facts (Open f) e = cc
+refutes-passes leaf dead facts (Split row) e = cc
+refutes-passes leaf dead facts (Present p) e = cc
+refutes-passes leaf dead facts (Twin p) e = cc
+refutes-passes leaf dead facts (Trap set) e = cc
+refutes-passes leaf dead facts (Siphon set) e = cc
+refutes-passes leaf dead facts (Open f) e = cc
 
 in_range_by : (b : Bool) (all cases : List (List Fact)) → where_in_range b all ≡ Some cases → b ≡ true
 in_range_by true all cases e = refl
@@ -120,30 +120,30 @@ open_by facts f (Some (Cong row m)) cases h e = cc
 open_by facts f (Some (NotCong row m)) cases h e = cc
 open_by facts f (Some (Holds p b)) cases h e = (lt-ltb f (length facts) (slice_get_within facts f (Holds p b) h), refl)
 
-divides-passes : (leaf : LeafModel) (facts : List Fact) (node : Node) (cases : List (List Fact)) → cases_of leaf facts node ≡ Some cases → PassesOwn leaf facts node
-divides-passes leaf facts (Linear terms) cases e = cc
-divides-passes leaf facts (Residue m terms) cases e = cc
-divides-passes leaf facts (Split row) cases e = (in_range_by _ _ cases e, refl, refl, refl)
-divides-passes leaf facts (Present p) cases e = (in_range_by _ _ cases e, refl, refl, refl)
-divides-passes leaf facts (Twin p) cases e =
-    let h = twin_by (nat_lt p (length leaf.states)) (can_meet_in leaf p p) _ cases e in (h.0, h.1, refl, refl)
-divides-passes leaf facts (Trap set) cases e = (in_range_by _ _ cases e, refl, refl, refl)
-divides-passes leaf facts (Siphon set) cases e = (in_range_by _ _ cases e, refl, refl, refl)
-divides-passes leaf facts (Open f) cases e =
+divides-passes : (leaf dead : LeafModel) (facts : List Fact) (node : Node) (cases : List (List Fact)) → cases_for leaf dead facts node ≡ Some cases → PassesOwn leaf dead facts node
+divides-passes leaf dead facts (Linear terms) cases e = cc
+divides-passes leaf dead facts (Residue m terms) cases e = cc
+divides-passes leaf dead facts (Split row) cases e = (in_range_by _ _ cases e, refl, refl, refl)
+divides-passes leaf dead facts (Present p) cases e = (in_range_by _ _ cases e, refl, refl, refl)
+divides-passes leaf dead facts (Twin p) cases e =
+    let h = twin_by (nat_lt p (length leaf.states)) (can_meet_in dead p p) _ cases e in (h.0, h.1, refl, refl)
+divides-passes leaf dead facts (Trap set) cases e = (in_range_by _ _ cases e, refl, refl, refl)
+divides-passes leaf dead facts (Siphon set) cases e = (in_range_by _ _ cases e, refl, refl, refl)
+divides-passes leaf dead facts (Open f) cases e =
     let h = open_by facts f (slice_get facts f) cases refl e in (h.0, refl, h.1, refl)
 
-own_none : (leaf : LeafModel) (facts : List Fact) (node : Node) → PassesOwn leaf facts node → own_refusal leaf facts node ≡ None
-own_none leaf facts node h = rw (h.0, h.1, h.2, h.3) refl
+own_none : (leaf dead : LeafModel) (facts : List Fact) (node : Node) → PassesOwn leaf dead facts node → own_refusal leaf dead facts node ≡ None
+own_none leaf dead facts node h = rw (h.0, h.1, h.2, h.3) refl
 
-unrefused : (leaf : LeafModel) (above : ℕ) (facts : List Fact) (node : Node) → above < 4096 → own_refusal leaf facts node ≡ None → all_fit facts (cases_at leaf facts node) ≡ true → refusal leaf above facts node ≡ None
-unrefused leaf above facts node l own fit = rw (lt-ltb above 4096 l, own, fit) refl
+unrefused : (leaf dead : LeafModel) (above : ℕ) (facts : List Fact) (node : Node) → above < 4096 → own_refusal leaf dead facts node ≡ None → all_fit facts (cases_at leaf dead facts node) ≡ true → refusal leaf dead above facts node ≡ None
+unrefused leaf dead above facts node l own fit = rw (lt-ltb above 4096 l, own, fit) refl
 
-pub refuting-unrefused : (leaf : LeafModel) (above : ℕ) (facts : List Fact) (node : Node) → MayStand above facts → refutes facts node ≡ true → (refusal leaf above facts node ≡ None) × (cases_at leaf facts node ≡ [])
-refuting-unrefused leaf above facts node limits e =
-    let h = refutes-passes leaf facts node e in
-    (unrefused leaf above facts node limits.depth (own_none leaf facts node h.0) (rw h.1 refl), h.1)
+pub refuting-unrefused : (leaf dead : LeafModel) (above : ℕ) (facts : List Fact) (node : Node) → MayStand above facts → refutes facts node ≡ true → (refusal leaf dead above facts node ≡ None) × (cases_at leaf dead facts node ≡ [])
+refuting-unrefused leaf dead above facts node limits e =
+    let h = refutes-passes leaf dead facts node e in
+    (unrefused leaf dead above facts node limits.depth (own_none leaf dead facts node h.0) (rw h.1 refl), h.1)
 
-pub dividing-unrefused : (leaf : LeafModel) (above : ℕ) (facts : List Fact) (node : Node) (cases : List (List Fact)) → MayStand above facts → cases_of leaf facts node ≡ Some cases → all_fit facts cases ≡ true → (refusal leaf above facts node ≡ None) × (cases_at leaf facts node ≡ cases)
-dividing-unrefused leaf above facts node cases limits e fit =
-    let same : cases_at leaf facts node ≡ cases = rw e refl in
-    (unrefused leaf above facts node limits.depth (own_none leaf facts node (divides-passes leaf facts node cases e)) (rw same fit), same)
+pub dividing-unrefused : (leaf dead : LeafModel) (above : ℕ) (facts : List Fact) (node : Node) (cases : List (List Fact)) → MayStand above facts → cases_for leaf dead facts node ≡ Some cases → all_fit facts cases ≡ true → (refusal leaf dead above facts node ≡ None) × (cases_at leaf dead facts node ≡ cases)
+dividing-unrefused leaf dead above facts node cases limits e fit =
+    let same : cases_at leaf dead facts node ≡ cases = rw e refl in
+    (unrefused leaf dead above facts node limits.depth (own_none leaf dead facts node (divides-passes leaf dead facts node cases e)) (rw same fit), same)

@@ -30,7 +30,7 @@ below_fit above facts (own ∷ cases) ordered fit h =
     (record { few = omega (arith, few, length-append facts own); ordered = All-append IsOrdered facts own ordered (all_of split.0) })
     (below_fit above facts cases ordered (and_right (nat_le (length facts + length own) 65536) _ fit) split.1)
 
-module _ (leaf : LeafModel) (before : List Waiting) (node : Node) (walk more : Walk) (frame : Frame) (at : StandsAtFirst before walk) (passed : IsPassed leaf walk.trail node frame.cases.items) (trail : more.trail ≡ walk.trail) (frames : more.frames.items ≡ walk.frames.items ++ frame ∷ []) (len : frame.len ≡ length walk.trail) where
+module _ (leaf dead : LeafModel) (before : List Waiting) (node : Node) (walk more : Walk) (frame : Frame) (at : StandsAtFirst before walk) (passed : IsPassed leaf dead walk.trail node frame.cases.items) (trail : more.trail ≡ walk.trail) (frames : more.frames.items ≡ walk.frames.items ++ frame ∷ []) (len : frame.len ≡ length walk.trail) where
   top : reverse more.frames.items ≡ frame ∷ reverse walk.frames.items
   top = turned more.frames.items walk.frames.items frame frames
 
@@ -38,7 +38,7 @@ module _ (leaf : LeafModel) (before : List Waiting) (node : Node) (walk more : W
   whole = ap (λ n. take n walk.trail) len ∙ take-length walk.trail
 
   -- what waits then
-  pub waits_then : waiting more ≡ cases_below leaf (at.above, walk.trail) node ++ waiting walk
+  pub waits_then : waiting more ≡ cases_below leaf dead (at.above, walk.trail) node ++ waiting walk
   waits_then =
       ap (λ t. waiting_under t (reverse more.frames.items)) trail
       ∙ ap (waiting_under walk.trail) top
@@ -46,24 +46,24 @@ module _ (leaf : LeafModel) (before : List Waiting) (node : Node) (walk more : W
       ∙ ap (λ facts. map {B = Waiting} (λ own. (at.above + 1, facts ++ own)) frame.cases.items ++ waiting walk) whole
       ∙ ap (λ cases. map {B = Waiting} (λ own. (at.above + 1, walk.trail ++ own)) cases ++ waiting walk) passed.cases_are
 
-  pub passed_fit : IsWithinFormat node → All IsFit before → all_fit walk.trail (cases_at leaf walk.trail node) ≡ true → All IsFit (waiting more)
+  pub passed_fit : IsWithinFormat node → All IsFit before → all_fit walk.trail (cases_at leaf dead walk.trail node) ≡ true → All IsFit (waiting more)
   passed_fit within all fit =
       let all' = rw at.first at all in
       rw waits_then
-      (All-append IsFit (cases_below leaf (at.above, walk.trail) node) (waiting walk)
-      (below_fit (at.above + 1) walk.trail (cases_at leaf walk.trail node) (all' 0 (0, []) (omega arith)).ordered fit (cases_ordered leaf walk.trail node within))
+      (All-append IsFit (cases_below leaf dead (at.above, walk.trail) node) (waiting walk)
+      (below_fit (at.above + 1) walk.trail (cases_at leaf dead walk.trail node) (all' 0 (0, []) (omega arith)).ordered fit (cases_ordered leaf dead walk.trail node within))
       (λ k d l. all' (suc k) d (omega arith)))
 
-  pub passed_cover : StillCover leaf before (waiting more)
+  pub passed_cover : StillCover leaf dead before (waiting more)
   passed_cover count end (one, contains, meets) =
       let contains' = rw at.first at contains in rw waits_then (covered contains')
     where
-      covered : Contains ((at.above, walk.trail) ∷ waiting walk) one → MeetsWaiting count (cases_below leaf (at.above, walk.trail) node ++ waiting walk)
+      covered : Contains ((at.above, walk.trail) ∷ waiting walk) one → MeetsWaiting count (cases_below leaf dead (at.above, walk.trail) node ++ waiting walk)
       covered (zero, l, e) =
           let all : MeetsAll count walk.trail = rw (← e) at meets in
           let case = passed.cover count end all in
           let below = has_map {B = Waiting} (λ own. (at.above + 1, walk.trail ++ own)) frame.cases.items case.0 case.1 in
           let below' = rw passed.cases_are at below in
-          ((at.above + 1, walk.trail ++ case.0), Contains-append_left (cases_below leaf (at.above, walk.trail) node) (waiting walk) (at.above + 1, walk.trail ++ case.0) below', All-append (MeetsFact count) walk.trail case.0 all case.2)
+          ((at.above + 1, walk.trail ++ case.0), Contains-append_left (cases_below leaf dead (at.above, walk.trail) node) (waiting walk) (at.above + 1, walk.trail ++ case.0) below', All-append (MeetsFact count) walk.trail case.0 all case.2)
       covered (suc k, l, e) =
-          (one, Contains-append_right (cases_below leaf (at.above, walk.trail) node) (waiting walk) one (k, omega arith, e), meets)
+          (one, Contains-append_right (cases_below leaf dead (at.above, walk.trail) node) (waiting walk) one (k, omega arith, e), meets)

@@ -1,22 +1,22 @@
 -- The stack of the nodes whose cases are being closed.
 use Rattle.std.specs.Prelude.{◌≡◌, ℕ, ◌+◌, ◌≤◌, ◌<◌, true, false, Bool, List, [], ◌∷◌, ◌++◌, map, length, take, All}
-use Rattle.std.specs.Prelude.{Contains, Option, Some, None, reverse}
+use Rattle.std.specs.Prelude.{Contains, Option, Some, None, reverse, Result, OnOk}
 use Rattle.pop_net.specs.LeafModel.{LeafModel}
 use Rattle.cert_base.specs.declared.limits.TheConstants.{FACT_LIMIT}
 use Rattle.cert_base.specs.declared.fact.Fact.{Fact}
 use Rattle.cert_base.specs.declared.node.Node.{Node}
 use Rattle.cert_base.specs.Valuation.{Valuation}
-use Rattle.cert_base.specs.FactsAndCases.{base_list}
-use Rattle.cert_base.specs.Ends.{IsEnd, MeetsAll, MeetsOne, HoldAtWrongEnds}
-use Rattle.pres_ast.specs.PredModel.{PredModel}
+use Rattle.cert_base.specs.Closes.{ClosesFor}
+use Rattle.cert_base.specs.Ends.{IsEndFor, MeetsAll, MeetsOne}
 use Rattle.cert_linear.specs.Conditions.{IsOrdered}
 use Rattle.cert_tree.specs.declared.fault.TreeWhy.{TreeWhy}
 use Rattle.cert_tree.specs.declared.fault.TreeFault.{TreeFault}
 use Rattle.pop_io.specs.declared.failure.Failure.{Failure}
 use Rattle.pop_io.specs.declared.failure.Failure.TheVariants.{Fault, NoMemory}
+use Rattle.pop_io.specs.Failures.{IfFault, OnlyMemory}
 use Rattle.cert_tree.specs.declared.walk.Frame.{Frame}
 use Rattle.cert_tree.specs.declared.walk.Walk.{Walk}
-use Rattle.cert_tree.specs.Refusals.{Waiting, first_from, own_refusal, cases_at}
+use Rattle.cert_tree.specs.Refusals.{Waiting, first_from, own_refusal, cases_at, IsFaultFor}
 
 -- the cases that wait at a node
 abbrev pub waits_at : List Fact → ℕ → Frame → List Waiting
@@ -71,19 +71,24 @@ abbrev pub MeetsWaiting : Valuation → List Waiting → Type 0
 MeetsWaiting count waiting = (at : Waiting) × Contains waiting at × MeetsAll count at.1
 
 -- every end that meets the facts also meets all facts of one of the cases
-abbrev pub CoverUnder : LeafModel → List Fact → List (List Fact) → Type 0
-CoverUnder leaf facts cases = (count : Valuation) → IsEnd leaf count → MeetsAll count facts → MeetsOne count cases
+abbrev pub CoverUnder : (leaf dead : LeafModel) → List Fact → List (List Fact) → Type 0
+CoverUnder leaf dead facts cases =
+    (count : Valuation) → IsEndFor leaf dead count → MeetsAll count facts → MeetsOne count cases
+
+-- no end meets all the facts
+abbrev pub NoneMeets : (leaf dead : LeafModel) → List Fact → Type 0
+NoneMeets leaf dead facts = (count : Valuation) → IsEndFor leaf dead count → MeetsAll count facts → ⊥
 
 -- every end that meets a case which waited before meets one that waits now
-abbrev pub StillCover : LeafModel → List Waiting → List Waiting → Type 0
-StillCover leaf before after =
-    (count : Valuation) → IsEnd leaf count → MeetsWaiting count before → MeetsWaiting count after
+abbrev pub StillCover : (leaf dead : LeafModel) → List Waiting → List Waiting → Type 0
+StillCover leaf dead before after =
+    (count : Valuation) → IsEndFor leaf dead count → MeetsWaiting count before → MeetsWaiting count after
 
 -- the node is passed, and these are its cases
-pub record IsPassed (leaf : LeafModel) (facts : List Fact) (node : Node) (cases : List (List Fact)) : Type 0 where
-  pub cases_are : cases ≡ cases_at leaf facts node
-  pub unrefused : own_refusal leaf facts node ≡ None
-  pub cover : CoverUnder leaf facts cases
+pub record IsPassed (leaf dead : LeafModel) (facts : List Fact) (node : Node) (cases : List (List Fact)) : Type 0 where
+  pub cases_are : cases ≡ cases_at leaf dead facts node
+  pub unrefused : own_refusal leaf dead facts node ≡ None
+  pub cover : CoverUnder leaf dead facts cases
 
 -- the reason of a halt is this one, unless memory ran out
 abbrev pub HaltsBy : Option TreeWhy → Failure TreeWhy → Type 0
@@ -91,26 +96,26 @@ HaltsBy why (Fault reason) = why ≡ Some reason
 HaltsBy why NoMemory = Unit {0}
 
 -- a node is passed: the first refused node is the same with it and without it
-abbrev pub GoesOn : LeafModel → List Waiting → Node → List Waiting → Type 0
-GoesOn leaf before node after =
+abbrev pub GoesOn : (leaf dead : LeafModel) → List Waiting → Node → List Waiting → Type 0
+GoesOn leaf dead before node after =
     (number : ℕ) (nodes : List Node)
-    → first_from leaf before number (node ∷ nodes) ≡ first_from leaf after (number + 1) nodes
+    → first_from leaf dead before number (node ∷ nodes) ≡ first_from leaf dead after (number + 1) nodes
 
 -- a node is the first that is refused
-abbrev pub HaltsAt : LeafModel → List Waiting → Node → Failure TreeWhy → Type 0
-HaltsAt leaf before node (Fault why) =
-    (number : ℕ) (nodes : List Node) → first_from leaf before number (node ∷ nodes) ≡ Some (number, why)
-HaltsAt leaf before node NoMemory = Unit {0}
+abbrev pub HaltsAt : (leaf dead : LeafModel) → List Waiting → Node → Failure TreeWhy → Type 0
+HaltsAt leaf dead before node (Fault why) =
+    (number : ℕ) (nodes : List Node) → first_from leaf dead before number (node ∷ nodes) ≡ Some (number, why)
+HaltsAt leaf dead before node NoMemory = Unit {0}
 
 -- the fault of a halt at a node
 abbrev pub fault_at : ℕ → Failure TreeWhy → Failure TreeFault
 fault_at node (Fault why) = Fault (record { node = node; why = why })
 fault_at node NoMemory = NoMemory
 
--- the walk stands at the beginning of a tree: the base facts wait alone, and every wrong end meets them
-pub record IsWalkStart (leaf : LeafModel) (p : PredModel) (value : Bool) (walk : Walk) : Type 0 where
-  pub waits : waiting walk ≡ (0, base_list leaf p value) ∷ []
-  pub nested : IsNested walk
-  pub fit : All IsFit (waiting walk)
-  pub few : length (base_list leaf p value) ≤ FACT_LIMIT
-  pub met : HoldAtWrongEnds leaf p.tree value (base_list leaf p value)
+-- what the walk over a tree says of its nodes, where these facts wait at the beginning
+pub record WalksNodes (leaf dead : LeafModel) (facts : List Fact) (nodes : List Node)
+    (result : Result (Unit {0}) (Failure TreeFault)) : Type 0 where
+  pub closes : OnOk result (ClosesFor leaf dead facts nodes [])
+  pub fault : IfFault result (IsFaultFor leaf dead facts nodes)
+  pub accepts : ClosesFor leaf dead facts nodes [] → OnlyMemory result
+  pub none : OnOk result (NoneMeets leaf dead facts)

@@ -10,9 +10,10 @@ use Rattle.cert_base.specs.declared.fact.Fact.TheVariants.{Holds}
 use Rattle.cert_base.specs.declared.node.Node.{Node}
 use Rattle.cert_base.specs.declared.node.Node.TheVariants.{Linear, Residue, Split, Present, Twin, Trap, Siphon, Open}
 use Rattle.cert_base.specs.Rows.{variable_count}
-use Rattle.cert_base.specs.FactsAndCases.{base_list, can_meet_in}
-use Rattle.cert_base.specs.Closes.{name_below, refutes, cases_of, Closes}
+use Rattle.cert_base.specs.FactsAndCases.{base_list, goal_list, can_meet_in}
+use Rattle.cert_base.specs.Closes.{name_below, refutes, cases_for, ClosesFor, Closes}
 use Rattle.cert_base.specs.Ends.{EndsRight}
+use Rattle.cert_base.specs.GoalEnds.{EndsInside}
 use Rattle.cert_tree.specs.Format.{IsWithinFormat}
 use Rattle.cert_tree.specs.declared.fault.TreeWhy.{TreeWhy}
 use Rattle.cert_tree.specs.declared.fault.TreeWhy.TheVariants.{Missing, TooDeep, BadIndex, NoTwin, NotOpen, NotClosed}
@@ -32,7 +33,7 @@ names_in_range leaf facts (Trap set) = list_all (λ q. nat_lt q (length leaf.sta
 names_in_range leaf facts (Siphon set) = list_all (λ q. nat_lt q (length leaf.states)) set
 names_in_range leaf facts (Open f) = nat_lt f (length facts)
 
--- a `Twin` names a state that can meet itself
+-- a `Twin` names a state that can meet itself, in the leaf that is dead at the end
 abbrev pub has_twin : LeafModel → Node → Bool
 has_twin leaf (Twin p) = can_meet_in leaf p p
 has_twin leaf _ = true
@@ -53,18 +54,18 @@ refutes_facts facts (Residue m terms) = refutes facts (Residue m terms)
 refutes_facts facts _ = true
 
 -- the cases of a node, one after the other; none at a node that refutes
-abbrev pub cases_at : LeafModel → List Fact → Node → List (List Fact)
-cases_at leaf facts node = unwrap_or (cases_of leaf facts node) []
+abbrev pub cases_at : (leaf dead : LeafModel) → List Fact → Node → List (List Fact)
+cases_at leaf dead facts node = unwrap_or (cases_for leaf dead facts node) []
 
 -- whether the facts with those of each case are few enough
 abbrev pub all_fit : List Fact → List (List Fact) → Bool
 all_fit facts = list_all (λ own. nat_le (length facts + length own) FACT_LIMIT)
 
 -- why a node is refused by its numbers, its move, its fact or its test
-abbrev pub own_refusal : LeafModel → List Fact → Node → Option TreeWhy
-own_refusal leaf facts node =
+abbrev pub own_refusal : (leaf dead : LeafModel) → List Fact → Node → Option TreeWhy
+own_refusal leaf dead facts node =
     if not (names_in_range leaf facts node) then Some BadIndex
-    else if not (has_twin leaf node) then Some NoTwin
+    else if not (has_twin dead node) then Some NoTwin
     else if not (opens_holds facts node) then Some NotOpen
     else if not (refutes_facts facts node) then Some NotClosed
     else None
@@ -75,10 +76,10 @@ or_else None why = why
 or_else (Some why) other = Some why
 
 -- why a node with this many nodes above it, and these facts, is refused
-abbrev pub refusal : LeafModel → ℕ → List Fact → Node → Option TreeWhy
-refusal leaf above facts node =
+abbrev pub refusal : (leaf dead : LeafModel) → ℕ → List Fact → Node → Option TreeWhy
+refusal leaf dead above facts node =
     if not (nat_lt above PATH_LIMIT) then Some TooDeep
-    else or_else (own_refusal leaf facts node) (if all_fit facts (cases_at leaf facts node) then None
+    else or_else (own_refusal leaf dead facts node) (if all_fit facts (cases_at leaf dead facts node) then None
     else Some TooManyFacts)
 
 -- a case that waits for its nodes: how many nodes are above it, and its facts
@@ -86,26 +87,33 @@ abbrev pub Waiting : Type 0
 Waiting = ℕ × List Fact
 
 -- the cases of a node, each with one more node above it, and with its own facts at the end
-abbrev pub cases_below : LeafModel → Waiting → Node → List Waiting
-cases_below leaf at node = map (λ own. (at.0 + 1, at.1 ++ own)) (cases_at leaf at.1 node)
+abbrev pub cases_below : (leaf dead : LeafModel) → Waiting → Node → List Waiting
+cases_below leaf dead at node = map (λ own. (at.0 + 1, at.1 ++ own)) (cases_at leaf dead at.1 node)
 
 abbrev pub go_on : Option TreeWhy → ℕ → Option (ℕ × TreeWhy) → Option (ℕ × TreeWhy)
 go_on None number later = later
 go_on (Some why) number later = Some (number, why)
 
 -- the first node that is refused, and why; the nodes are numbered from here, and the cases wait in order
-abbrev pub first_from : LeafModel → List Waiting → ℕ → List Node → Option (ℕ × TreeWhy)
-first_from leaf [] number [] = None
-first_from leaf [] number (node ∷ nodes) = Some (number, Rest)
-first_from leaf (at ∷ waiting) number [] = Some (number, Missing)
-first_from leaf (at ∷ waiting) number (node ∷ nodes) =
-    go_on (refusal leaf at.0 at.1 node) number (first_from leaf (cases_below leaf at node
+abbrev pub first_from : (leaf dead : LeafModel) → List Waiting → ℕ → List Node → Option (ℕ × TreeWhy)
+first_from leaf dead [] number [] = None
+first_from leaf dead [] number (node ∷ nodes) = Some (number, Rest)
+first_from leaf dead (at ∷ waiting) number [] = Some (number, Missing)
+first_from leaf dead (at ∷ waiting) number (node ∷ nodes) =
+    go_on (refusal leaf dead at.0 at.1 node) number (first_from leaf dead (cases_below leaf dead at node
     ++ waiting) (number + 1) nodes)
 
+-- the same from the beginning of a tree, where these facts wait
+abbrev pub first_for : (leaf dead : LeafModel) → List Fact → List Node → Option (ℕ × TreeWhy)
+first_for leaf dead facts nodes = first_from leaf dead ((0, facts) ∷ []) 0 nodes
+
 abbrev pub first_refused : LeafModel → PredModel → Bool → List Node → Option (ℕ × TreeWhy)
-first_refused leaf p value nodes = first_from leaf ((0, base_list leaf p value) ∷ []) 0 nodes
+first_refused leaf p value nodes = first_for leaf leaf (base_list leaf p value) nodes
 
 -- the fault names the first node that is refused, and why
+abbrev pub IsFaultFor : (leaf dead : LeafModel) → List Fact → List Node → TreeFault → Type 0
+IsFaultFor leaf dead facts nodes fault = first_for leaf dead facts nodes ≡ Some (fault.node, fault.why)
+
 abbrev pub IsTreeFault : LeafModel → PredModel → Bool → List Node → TreeFault → Type 0
 IsTreeFault leaf p value nodes fault = first_refused leaf p value nodes ≡ Some (fault.node, fault.why)
 
@@ -123,3 +131,13 @@ pub record ChecksTree (leaf : LeafModel) (p : PredModel) (value : Bool) (nodes :
   pub accepts : Closes leaf (base_list leaf p value) nodes [] → OnlyMemory result
   -- from every input at which the predicate has the value, each agent of each reachable terminal crowd outputs it
   pub right : OnOk result (EndsRight leaf p.tree value)
+
+-- what `check_goal_tree` says: the nodes close the goal's facts; or this is the first that is refused
+pub record ChecksGoalTree (leaf dead : LeafModel) (p : PredModel) (value : Bool) (sets : List (List ℕ))
+    (nodes : List Node) (result : Result (Unit {0}) (Failure TreeFault)) : Type 0 where
+  pub closes : OnOk result (ClosesFor leaf dead (goal_list leaf p value sets) nodes [])
+  pub fault : IfFault result (IsFaultFor leaf dead (goal_list leaf p value sets) nodes)
+  pub accepts : ClosesFor leaf dead (goal_list leaf p value sets) nodes [] → OnlyMemory result
+  -- from every input at which the predicate has the value, each reachable crowd in which `dead` has no step has all
+  -- agents in one of the sets
+  pub inside : OnOk result (EndsInside leaf dead p.tree value sets)

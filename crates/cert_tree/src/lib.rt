@@ -1,6 +1,6 @@
 //! The check of a proof's tree of cases.
 //! It stands on `cert_linear` and `cert_traps`.
-//! The layer above uses: `check_tree` accepts exactly trees that close, and says that such a tree leaves no wrong end.
+//! The layer above uses: `check_tree` and `check_goal_tree` accept exactly trees that close, and say which ends they leave.
 #![tactic(auto)]
 
 mod fault;
@@ -11,4 +11,4 @@ mod walk;
 
 pub use fault::{TreeFault, TreeWhy};
 pub use law::refusal_law;
-pub use tree::check_tree;
+pub use tree::{check_goal_tree, check_tree};

@@ -7,6 +7,7 @@ ghost use Rattle.cert_base.specs.declared.fact.Fact.{Fact};
 ghost use Rattle.cert_base.specs.declared.node.Node.TheVariants.{Linear, Residue, Split, Present, Twin, Trap, Siphon};
 ghost use Rattle.cert_base.specs.declared.node.Node.TheVariants.{Open};
 ghost use Rattle.cert_base.specs.Closes.{name_below};
+ghost use Rattle.cert_base.specs.Ends.{HaveSamePlaces};
 ghost use Rattle.cert_linear.specs.Conditions.{IsOrdered, AreMultipliers};
 ghost use Rattle.cert_tree.specs.Format.{IsWithinFormat};
 ghost use Rattle.cert_tree.specs.Refusals.{own_refusal};
@@ -20,25 +21,27 @@ use pop_io::{Failure, List};
 use pop_net::Leaf;
 use std::alloc::Global;
 
-/// The cases of a node, in order; none at a node that refutes the facts.
+/// The cases of a node, in order; none at a node that refutes the facts. `dead` is the leaf that has no step at the end.
 pub(crate) fn node_cases(
     alloc: Global,
     leaf: &Leaf,
+    dead: &Leaf,
     trail: &mut Trail,
     node: &Node,
 ) -> Result<List<List<Fact>>, Failure<TreeWhy>>
+    requires places { HaveSamePlaces leaf.now dead.now }
     requires within { IsWithinFormat node.now }
     requires ordered { All IsOrdered trail.old }
-    ensures passed { IfOk result (IsPassed leaf.now trail.old node.now) }
-    ensures halts { IfErr result (HaltsBy (own_refusal leaf.now trail.old node.now)) }
+    ensures passed { IfOk result (IsPassed leaf.now dead.now trail.old node.now) }
+    ensures halts { IfErr result (HaltsBy (own_refusal leaf.now dead.now trail.old node.now)) }
     ensures unchanged { trail.new ≡ trail.old }
 {
     match node {
         Node::Linear(terms) => linear_node(alloc, trail, terms),
         Node::Residue(modulus, terms) => residue_node(alloc, trail, *modulus, terms),
         Node::Split(row) => split_node(alloc, leaf, row),
-        Node::Present(state) => present_node(alloc, leaf, *state),
-        Node::Twin(state) => twin_node(alloc, leaf, *state),
+        Node::Present(state) => present_node(alloc, leaf, dead, *state),
+        Node::Twin(state) => twin_node(alloc, leaf, dead, *state),
         Node::Trap(set) => trap_node(alloc, leaf, set),
         Node::Siphon(set) => siphon_node(alloc, leaf, set),
         Node::Open(number) => open_node(alloc, trail, *number),
@@ -53,8 +56,8 @@ fn linear_node(
 ) -> Result<List<List<Fact>>, Failure<TreeWhy>>
     requires multipliers { AreMultipliers terms.now }
     requires ordered { All IsOrdered trail.old }
-    ensures passed { (leaf : LeafModel) → IfOk result (IsPassed leaf trail.old (Linear terms.now)) }
-    ensures halts { (leaf : LeafModel) → IfErr result (HaltsBy (own_refusal leaf trail.old (Linear terms.now))) }
+    ensures passed { (leaf dead : LeafModel) → IfOk result (IsPassed leaf dead trail.old (Linear terms.now)) }
+    ensures halts { (leaf dead : LeafModel) → IfErr result (HaltsBy (own_refusal leaf dead trail.old (Linear terms.now))) }
     ensures unchanged { trail.new ≡ trail.old }
 {
     if !name_facts(terms.as_slice(), trail.len()) {
@@ -75,9 +78,9 @@ fn residue_node(
     requires modulus { 2 ≤ modulus }
     requires multipliers { AreMultipliers terms.now }
     requires ordered { All IsOrdered trail.old }
-    ensures passed { (leaf : LeafModel) → IfOk result (IsPassed leaf trail.old (Residue modulus terms.now)) }
-    ensures halts { (leaf : LeafModel)
-        → IfErr result (HaltsBy (own_refusal leaf trail.old (Residue modulus terms.now))) }
+    ensures passed { (leaf dead : LeafModel) → IfOk result (IsPassed leaf dead trail.old (Residue modulus terms.now)) }
+    ensures halts { (leaf dead : LeafModel)
+        → IfErr result (HaltsBy (own_refusal leaf dead trail.old (Residue modulus terms.now))) }
     ensures unchanged { trail.new ≡ trail.old }
 {
     if !name_facts(terms.as_slice(), trail.len()) {
@@ -92,8 +95,9 @@ fn residue_node(
 fn split_node(alloc: Global, leaf: &Leaf, row: &Row) -> Result<List<List<Fact>>, Failure<TreeWhy>>
     requires coefs { All (λ t. nat_abs t.by ≤ SIZE_LIMIT) row.now.terms }
     requires constant { nat_abs row.now.constant ≤ SIZE_LIMIT }
-    ensures passed { (facts : List Fact) → IfOk result (IsPassed leaf.now facts (Split row.now)) }
-    ensures halts { (facts : List Fact) → IfErr result (HaltsBy (own_refusal leaf.now facts (Split row.now))) }
+    ensures passed { (dead : LeafModel) (facts : List Fact) → IfOk result (IsPassed leaf.now dead facts (Split row.now)) }
+    ensures halts { (dead : LeafModel) (facts : List Fact)
+        → IfErr result (HaltsBy (own_refusal leaf.now dead facts (Split row.now))) }
 {
     if !name_facts(row.terms.as_slice(), count_variables(leaf)) {
         return Err(Failure::Fault(TreeWhy::BadIndex));
@@ -104,25 +108,33 @@ fn split_node(alloc: Global, leaf: &Leaf, row: &Row) -> Result<List<List<Fact>>,
 fn present_node(
     alloc: Global,
     leaf: &Leaf,
+    dead: &Leaf,
     state: u16,
 ) -> Result<List<List<Fact>>, Failure<TreeWhy>>
-    ensures passed { (facts : List Fact) → IfOk result (IsPassed leaf.now facts (Present state)) }
-    ensures halts { (facts : List Fact) → IfErr result (HaltsBy (own_refusal leaf.now facts (Present state))) }
+    requires places { HaveSamePlaces leaf.now dead.now }
+    ensures passed { (facts : List Fact) → IfOk result (IsPassed leaf.now dead.now facts (Present state)) }
+    ensures halts { (facts : List Fact) → IfErr result (HaltsBy (own_refusal leaf.now dead.now facts (Present state))) }
 {
     if leaf.state_count() <= state {
         return Err(Failure::Fault(TreeWhy::BadIndex));
     }
-    Ok(present_cases(alloc, leaf, state)?)
+    Ok(present_cases(alloc, dead, state)?)
 }
 
-fn twin_node(alloc: Global, leaf: &Leaf, state: u16) -> Result<List<List<Fact>>, Failure<TreeWhy>>
-    ensures passed { (facts : List Fact) → IfOk result (IsPassed leaf.now facts (Twin state)) }
-    ensures halts { (facts : List Fact) → IfErr result (HaltsBy (own_refusal leaf.now facts (Twin state))) }
+fn twin_node(
+    alloc: Global,
+    leaf: &Leaf,
+    dead: &Leaf,
+    state: u16,
+) -> Result<List<List<Fact>>, Failure<TreeWhy>>
+    requires places { HaveSamePlaces leaf.now dead.now }
+    ensures passed { (facts : List Fact) → IfOk result (IsPassed leaf.now dead.now facts (Twin state)) }
+    ensures halts { (facts : List Fact) → IfErr result (HaltsBy (own_refusal leaf.now dead.now facts (Twin state))) }
 {
     if leaf.state_count() <= state {
         return Err(Failure::Fault(TreeWhy::BadIndex));
     }
-    let Some(own) = twin_case(alloc, leaf, state)? else {
+    let Some(own) = twin_case(alloc, dead, state)? else {
         return Err(Failure::Fault(TreeWhy::NoTwin));
     };
     let mut cases = Vec::new(alloc);
@@ -135,8 +147,9 @@ fn trap_node(
     leaf: &Leaf,
     set: &List<u16>,
 ) -> Result<List<List<Fact>>, Failure<TreeWhy>>
-    ensures passed { (facts : List Fact) → IfOk result (IsPassed leaf.now facts (Trap set.now)) }
-    ensures halts { (facts : List Fact) → IfErr result (HaltsBy (own_refusal leaf.now facts (Trap set.now))) }
+    ensures passed { (dead : LeafModel) (facts : List Fact) → IfOk result (IsPassed leaf.now dead facts (Trap set.now)) }
+    ensures halts { (dead : LeafModel) (facts : List Fact)
+        → IfErr result (HaltsBy (own_refusal leaf.now dead facts (Trap set.now))) }
 {
     if !name_states(set.as_slice(), leaf.state_count()) {
         return Err(Failure::Fault(TreeWhy::BadIndex));
@@ -149,8 +162,9 @@ fn siphon_node(
     leaf: &Leaf,
     set: &List<u16>,
 ) -> Result<List<List<Fact>>, Failure<TreeWhy>>
-    ensures passed { (facts : List Fact) → IfOk result (IsPassed leaf.now facts (Siphon set.now)) }
-    ensures halts { (facts : List Fact) → IfErr result (HaltsBy (own_refusal leaf.now facts (Siphon set.now))) }
+    ensures passed { (dead : LeafModel) (facts : List Fact) → IfOk result (IsPassed leaf.now dead facts (Siphon set.now)) }
+    ensures halts { (dead : LeafModel) (facts : List Fact)
+        → IfErr result (HaltsBy (own_refusal leaf.now dead facts (Siphon set.now))) }
 {
     if !name_states(set.as_slice(), leaf.state_count()) {
         return Err(Failure::Fault(TreeWhy::BadIndex));
@@ -163,8 +177,8 @@ fn open_node(
     trail: &Trail,
     number: u32,
 ) -> Result<List<List<Fact>>, Failure<TreeWhy>>
-    ensures passed { (leaf : LeafModel) → IfOk result (IsPassed leaf trail.now (Open number)) }
-    ensures halts { (leaf : LeafModel) → IfErr result (HaltsBy (own_refusal leaf trail.now (Open number))) }
+    ensures passed { (leaf dead : LeafModel) → IfOk result (IsPassed leaf dead trail.now (Open number)) }
+    ensures halts { (leaf dead : LeafModel) → IfErr result (HaltsBy (own_refusal leaf dead trail.now (Open number))) }
 {
     if trail.len() <= number {
         return Err(Failure::Fault(TreeWhy::BadIndex));

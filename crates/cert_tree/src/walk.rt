@@ -4,6 +4,7 @@ ghost use Rattle.std.specs.Prelude.{◌≡◌, ◌≤◌, ◌<◌, ◌∷◌, []
 ghost use Rattle.std.specs.Prelude.{OnOk, MatchOption, nat_le};
 ghost use Rattle.std.specs.List.{list_all};
 ghost use Rattle.cert_base.specs.declared.fact.Fact.{Fact};
+ghost use Rattle.cert_base.specs.Ends.{HaveSamePlaces};
 ghost use Rattle.cert_tree.specs.Format.{IsWithinFormat};
 ghost use Rattle.cert_tree.specs.Refusals.{all_fit};
 ghost use Rattle.cert_tree.specs.Frames.{waiting, waiting_with, AreNested, IsNested, IsFit, FindsCase, IsLatest};
@@ -56,16 +57,18 @@ impl Walk {
         &mut self,
         alloc: Global,
         leaf: &Leaf,
+        dead: &Leaf,
         node: &Node,
     ) -> Result<(), Failure<TreeWhy>>
+        requires places { HaveSamePlaces leaf.now dead.now }
         requires within { IsWithinFormat node.now }
         requires nested { IsNested self.old }
         requires fit { All IsFit (waiting self.old) }
-        ensures goes_on { OnOk result (GoesOn leaf.now (waiting self.old) node.now (waiting self.new)) }
+        ensures goes_on { OnOk result (GoesOn leaf.now dead.now (waiting self.old) node.now (waiting self.new)) }
         ensures nested { OnOk result (IsNested self.new) }
         ensures fit { OnOk result (All IsFit (waiting self.new)) }
-        ensures cover { OnOk result (StillCover leaf.now (waiting self.old) (waiting self.new)) }
-        ensures halts { IfErr result (HaltsAt leaf.now (waiting self.old) node.now) }
+        ensures cover { OnOk result (StillCover leaf.now dead.now (waiting self.old) (waiting self.new)) }
+        ensures halts { IfErr result (HaltsAt leaf.now dead.now (waiting self.old) node.now) }
     {
         if !self.next_case()? {
             return Err(Failure::Fault(TreeWhy::Rest));
@@ -73,7 +76,7 @@ impl Walk {
         if self.frames.len() > PATH_LIMIT {
             return Err(Failure::Fault(TreeWhy::TooDeep));
         }
-        let cases = node_cases(alloc, leaf, &mut self.trail, node)?;
+        let cases = node_cases(alloc, leaf, dead, &mut self.trail, node)?;
         if !has_room(&self.trail, cases.as_slice()) {
             return Err(Failure::Fault(TreeWhy::TooManyFacts));
         }

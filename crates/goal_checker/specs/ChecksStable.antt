@@ -5,7 +5,6 @@ use Rattle.pop_io.specs.Failures.{IfFault, OnlyMemory}
 use Rattle.pres_ast.specs.PredModel.{PredModel}
 use Rattle.pop_net.specs.NetModel.{NetModel}
 use Rattle.cert_base.specs.declared.stable.StableProof.{StableProof}
-use Rattle.net_goals.specs.StablyRight.{IsStablyRight}
 use Rattle.goal_checker.specs.declared.fault.StableRejected.{StableRejected}
 use Rattle.goal_checker.specs.ValidStable.{ValidStableProof, stable_bound}
 use Rattle.goal_checker.specs.Rejections.{IsStableRejected}
@@ -14,8 +13,6 @@ use Rattle.goal_checker.specs.Rejections.{IsStableRejected}
 pub record ChecksStable (net : NetModel) (p : PredModel) (proof : StableProof)
     (result : Result ℕ (Failure StableRejected)) : Type 0 where
   pub valid : OnOk result (ValidStableProof net p proof)
-  -- the net stably computes the predicate within the bound
-  pub right : OnOk result (IsStablyRight net p.tree (stable_bound proof))
   pub bound : IfOk result (λ bound. bound ≡ stable_bound proof)
   pub fault : IfFault result (IsStableRejected net p proof)
   pub accepts : ValidStableProof net p proof → OnlyMemory result

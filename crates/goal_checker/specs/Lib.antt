@@ -1,3 +1,4 @@
 pub mod ValidStable
 pub mod Rejections
+pub mod StableSound
 pub mod ChecksStable

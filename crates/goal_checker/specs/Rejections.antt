@@ -9,7 +9,7 @@ use Rattle.cert_base.specs.declared.stable.StablePart.{StablePart}
 use Rattle.cert_base.specs.declared.stable.StablePart.TheVariants.{Silent, Stable}
 use Rattle.cert_base.specs.declared.stable.StableProof.{StableProof}
 use Rattle.cert_base.specs.ValidProof.{CombinesTo}
-use Rattle.cert_goals.specs.ValidGoals.{ValidGoal, IsGoalFault}
+use Rattle.cert_goals.specs.ValidGoal.{ValidGoal, IsGoalFault}
 use Rattle.pop_checker.specs.declared.fault.Rejected.TheVariants.{Layers, Tree, Predicate}
 use Rattle.pop_checker.specs.Parts.{IsPartFault}
 use Rattle.goal_checker.specs.declared.fault.StableRejected.{StableRejected}

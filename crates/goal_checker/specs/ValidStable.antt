@@ -12,7 +12,7 @@ use Rattle.cert_base.specs.declared.stable.StableProof.{StableProof}
 use Rattle.cert_base.specs.ProofBound.{layers_bound}
 use Rattle.cert_base.specs.StableProof.{pred_of_part}
 use Rattle.cert_base.specs.ValidProof.{ValidLeafProof, CombinesTo}
-use Rattle.cert_goals.specs.ValidGoals.{ValidGoal}
+use Rattle.cert_goals.specs.ValidGoal.{ValidGoal}
 
 -- the leaf falls silent by a valid proof, or both its goals are valid
 abbrev pub ValidPart : LeafModel → StablePart → Type 0

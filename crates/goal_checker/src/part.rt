@@ -6,7 +6,7 @@ ghost use Rattle.pres_ast.specs.PredModel.{PredModel};
 ghost use Rattle.cert_base.specs.ProofLimits.{IsGoalWithin};
 ghost use Rattle.cert_base.specs.ProofBound.{layers_bound};
 ghost use Rattle.cert_base.specs.StableProof.{pred_of_part, AreGoalsWithin, IsPartWithin};
-ghost use Rattle.cert_goals.specs.ValidGoals.{ValidGoal};
+ghost use Rattle.cert_goals.specs.ValidGoal.{ValidGoal};
 ghost use Rattle.goal_checker.specs.ValidStable.{ValidPart, goals_bound, part_bound};
 ghost use Rattle.goal_checker.specs.Rejections.{IsGoalRejected, AreGoalsRejected, IsPartRejected};
 

@@ -49,7 +49,7 @@ fn check_parts(
     ensures formed { IsNet net.now }
     ensures valid { OnOk result (ArePartsValidBefore net.now proof.now.leaves (length net.now.leaves)) }
     ensures bound { IfOk result (λ bound. bound ≡ stable_bound proof.now) }
-    ensures fault { IfFault result (λ rejected. (p : PredModel) → IsStableRejected net.now p proof.now rejected) }
+    ensures fault { (p : PredModel) → IfFault result (IsStableRejected net.now p proof.now) }
     ensures accepts { ArePartsValidBefore net.now proof.now.leaves (length net.now.leaves) → OnlyMemory result }
 {
     // What the invariant says is known from here on.

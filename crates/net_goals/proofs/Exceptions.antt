@@ -1,9 +1,10 @@
 -- Random runs of any process: if each configuration has a run of at most w moves into a set that no move leaves, all but
 -- few runs lead there. What the other runs are is listed, so the set need not be decided.
-use Rattle.std.proofs.Common.{◌≡◌, ◌⊎◌, inl, inr, ℕ, zero, suc, ◌+◌, ◌-◌, ◌*◌, ◌^◌, ◌<◌, ◌≤◌, List, [], ◌∷◌, ◌++◌, length, get_or, map, refl, ap, sym, subst, ◌∙◌, arith}
+use Rattle.std.proofs.Common.{◌≡◌, ◌⊎◌, inl, inr, ℕ, zero, suc, ◌+◌, ◌-◌, ◌*◌, ◌/◌, ◌%◌, ◌^◌, ◌<◌, ◌≤◌, List, [], ◌∷◌, ◌++◌, length, get_or, map, refl, ap, sym, subst, ◌∙◌, arith}
 use Rattle.std.specs.Prelude.{All, Contains}
 use Rattle.std.proofs.Math.Nat as nat
-use Rattle.std.proofs.lemmas.Nat.{pow-add}
+use Rattle.std.proofs.lemmas.Nat.{pow-add, div-add-mod'}
+use Rattle.std.proofs.lemmas.Bool.{cases_lt}
 use Rattle.std.proofs.lemmas.List.{length-append, length-map}
 use Rattle.std.proofs.lemmas.List.Elements.{All-nil, All-cons, All-append, All-head, All-tail, All-map, Contains-append_left, Contains-append_right}
 use Rattle.list_laws.proofs.Lists.{has_first, has_later, has_map, all_front, all_back}
@@ -11,6 +12,8 @@ use Rattle.pop_random.specs.UniformRuns.{lists_of, after_run}
 use Rattle.pop_random.proofs.Sums.{length_lists}
 use Rattle.pop_random.proofs.Powers.{pow_many, pow_vanishes}
 use Rattle.pop_random.proofs.Listed.{IsOf, all_of, has_of}
+use Rattle.net_goals.specs.AlmostSurely.{sum_of_shares}
+use Rattle.net_goals.proofs.Shares.{no_shares, few, few_is, shares_sum}
 
 -- ---- a list without one of its elements
 
@@ -270,4 +273,40 @@ module _ {A C : Type 0} (moves : List A) (make : A → C → C) (P G : C → Typ
           q,
           subst (λ n. q * e < length moves ^ n) whole (less_than_one (length moves) w e d some),
           same_most (m * w + d) l c q q whole refl (compose (m * w) d c p (length moves ^ d) (λ x h. all_but_all d x) ((length moves ^ w - 1) ^ m) (tail m c p)),
+        )
+
+    -- how long it takes: the shares of the runs that may not have come there add up to at most w * N ^ w
+    pub expected : (c : C) → P c → (few : ℕ → ℕ) × ((i : ℕ) → Most i c (few i)) × ((l : ℕ) → sum_of_shares few (length moves) l ≤ w * length moves ^ w * length moves ^ l)
+    expected c p = go (cases_lt 0 w)
+      where
+        Expected : Type 0
+        Expected =
+            (few : ℕ → ℕ) × ((i : ℕ) → Most i c (few i)) × ((l : ℕ) → sum_of_shares few (length moves) l ≤ w * length moves ^ w * length moves ^ l)
+
+        at_once : w ≡ 0 → (i : ℕ) → Most i c 0
+        at_once none i =
+            let one : length moves ^ w - 1 ≡ 0 = ap (λ k. length moves ^ k - 1) none ∙ ap (λ k. k - 1) (nat.pow-zero (length moves)) in
+            let gone : (length moves ^ w - 1) ^ 1 * length moves ^ i ≡ 0 = ap (λ k. k * length moves ^ i) (nat.pow-succ' (length moves ^ w - 1) 0 ∙ ap (λ k. k * (length moves ^ w - 1) ^ 0) one) ∙ (let e : 0 * (length moves ^ w - 1) ^ 0 * length moves ^ i ≡ 0 = omega arith in e) in
+            same_most (1 * w + i) i c ((length moves ^ w - 1) ^ 1 * length moves ^ i) 0 (omega (arith, none)) gone
+            (compose (1 * w) i c p (length moves ^ i) (λ x h. all_but_all i x) ((length moves ^ w - 1) ^ 1) (tail 1 c p))
+
+        in_windows : 0 < w → Expected
+        in_windows one =
+            let y = length moves ^ w - 1 in
+            let power = nat.one-le-pow w (length moves) some in
+            let power_is : suc y ≡ length moves ^ w = omega (arith, power) in (
+              few (length moves) w y power_is one,
+              λ i. let m = i / w in
+                  let d = i % w in
+                  same_most (m * w + d) i c (y ^ m * length moves ^ d) (few (length moves) w y power_is one i) (div-add-mod' i w) (few_is (length moves) w y power_is one i)
+                  (compose (m * w) d c p (length moves ^ d) (λ x h. all_but_all d x) (y ^ m) (tail m c p)),
+              shares_sum (length moves) w y power_is one,
+            )
+
+        go : (0 < w) ⊎ (w ≤ 0) → Expected
+        go (inl one) = in_windows one
+        go (inr none) = (
+          λ i. 0,
+          at_once (omega (arith, none)),
+          λ l. let z = no_shares (length moves) l in omega (arith, z),
         )

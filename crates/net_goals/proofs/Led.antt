@@ -7,12 +7,16 @@ use Rattle.std.proofs.lemmas.Option.{slice_get_within, slice_get-get_or}
 use Rattle.pop_net.specs.declared.leaf.Move.{Move}
 use Rattle.pop_net.specs.LeafModel.{LeafModel, silent_move}
 use Rattle.pop_net.specs.NetModel.{NetModel, Tuple, CrowdModel, IsTuple, state_of}
-use Rattle.pop_net.specs.Step.{Follows, LeafChange, Meets, Step, LeafStep}
+use Rattle.pop_net.specs.Step.{Follows, LeafChange, TupleChange, Meets, Step, LeafStep}
 use Rattle.pop_net.specs.Reachable.{Leads}
 use Rattle.pop_net.proofs.Projection.{component, component-set, slice_get-component}
 use Rattle.pop_net.proofs.Quiet.{set_same}
 use Rattle.pop_net.proofs.Tuples.{step_tuples}
 use Rattle.pop_fair.proofs.Reached.{AreChanges, to_step}
+
+-- the changes of a step
+pub own_changes : (net : NetModel) → AreChanges net (TupleChange net)
+own_changes net x y x' y' hx hy c = c
 
 -- a non-silent move of the leaf for the states x and y, in its own order
 pub record IsFor (leaf : LeafModel) (t : Move) (x y : ℕ) : Type 0 where

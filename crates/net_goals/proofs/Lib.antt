@@ -3,7 +3,12 @@ pub mod Combined
 pub mod Led
 pub mod Moves
 pub mod Join
+pub mod Shares
 pub mod Exceptions
 pub mod Random
+pub mod Turns
+pub mod Same
+pub mod Options
+pub mod Extend
 pub mod Right
 pub mod EitherKind

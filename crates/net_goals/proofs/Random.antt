@@ -15,7 +15,7 @@ use Rattle.pop_fair.specs.StablyComputes.{Reacts, MeetingStep}
 use Rattle.pop_fair.proofs.Reached.{leads_one_more}
 use Rattle.pop_fair.proofs.Standing.{size_of_input}
 use Rattle.pop_random.specs.UniformRuns.{after_run}
-use Rattle.pop_random.specs.RandomMeetings.{pairs, runs, meet}
+use Rattle.pop_random.specs.RandomMeetings.{pairs, runs, run_count, meet}
 use Rattle.pop_random.specs.Laws.{IsPair}
 use Rattle.pop_random.proofs.Sums.{length_lists}
 use Rattle.pop_random.proofs.Powers.{pow_many}
@@ -23,8 +23,8 @@ use Rattle.pop_random.proofs.Pairs.{has_pair, pair_count}
 use Rattle.pop_random.proofs.Listed.{IsOf, all_of, at_contained}
 use Rattle.pop_random.proofs.Settled.{meets_step}
 use Rattle.net_goals.specs.OutputStable.{IsOutputStable, ComesToOutput}
-use Rattle.net_goals.specs.AlmostSurely.{AllBut, LeadsToOutput, RestsAlmostSurely, RestAlmostSurely}
-use Rattle.net_goals.proofs.Exceptions.{Most, tail, vanishes}
+use Rattle.net_goals.specs.AlmostSurely.{AllBut, sum_of_shares, LeadsToOutput, RestsAlmostSurely, RestAlmostSurely}
+use Rattle.net_goals.proofs.Exceptions.{Most, tail, vanishes, expected}
 
 -- a step by a meeting is the meeting of its pair
 met_by : (net : NetModel) (c d : CrowdModel) (s : MeetingStep net c d) → meet net (s.a, s.b) c ≡ d
@@ -131,6 +131,13 @@ module _ (net : NetModel) (tree : PredTree) (k : ℕ) (come : ComesToOutput (Mee
         count = λ m. length_lists (pairs n) (m * w) ∙ ap (λ q. q ^ (m * w)) (pair_count n) ∙ pow_many (n * (n - 1)) m w;
         tail = λ m. subst (λ q. AllBut ((q ^ w - 1) ^ m) (runs n (m * w)) (LeadsToOutput net value crowd)) (pair_count n)
             (all_but (m * w) ((length (pairs n) ^ w - 1) ^ m) (tail (pairs n) (meet net) (IsOnWay net value counts n) (IsOutputStable net value) keep stay some w leads m crowd here));
+        expected =
+            let x = expected (pairs n) (meet net) (IsOnWay net value counts n) (IsOutputStable net value) keep stay some w leads crowd here in (
+              x.0,
+              λ i. all_but i (x.0 i) (x.1 i),
+              λ l. subst (λ q. sum_of_shares x.0 (length (pairs n)) l ≤ w * run_count k n * q) (sym (length_lists (pairs n) l))
+                  (subst (λ q. sum_of_shares x.0 (length (pairs n)) l ≤ w * q ^ w * length (pairs n) ^ l) (pair_count n) (x.2 l)),
+            );
         vanishes = λ e l long.
             let v = vanishes (pairs n) (meet net) (IsOnWay net value counts n) (IsOutputStable net value) keep stay some w leads e l (subst (λ q. e * q ^ w * w ≤ l) (sym (pair_count n)) long) crowd here in
             (v.0, subst (λ q. v.0 * e < q) (sym (length_lists (pairs n) l)) v.1, all_but l v.0 v.2);

@@ -1,19 +1,16 @@
 -- A net whose leaves have goals is stably right.
 use Rattle.std.proofs.Common.{ℕ, List}
-use Rattle.pop_net.specs.NetModel.{NetModel}
 use Rattle.pop_net.specs.Step.{TupleChange}
 use Rattle.pop_fair.specs.StablyComputes.{Reacts}
 use Rattle.pop_fair.specs.Synchronous.{AllReact}
-use Rattle.pop_fair.proofs.Reached.{AreChanges, reacts_changes}
+use Rattle.pop_fair.proofs.Reached.{reacts_changes}
 use Rattle.pop_fair.proofs.Synchronous.{react_changes}
 use Rattle.net_goals.specs.Laws.{LeafGoalsJoin}
+use Rattle.net_goals.proofs.Led.{own_changes}
 use Rattle.net_goals.proofs.Moves.{steps_can, synchronous_can, meetings_can}
 use Rattle.net_goals.specs.LeafGoals.{parts_bound}
 use Rattle.net_goals.proofs.Join.{comes, fairly}
 use Rattle.net_goals.proofs.Random.{rest_randomly}
-
-own_changes : (net : NetModel) → AreChanges net (TupleChange net)
-own_changes net x y x' y' hx hy c = c
 
 pub join_right : (Goals : ℕ → List ℕ → List ℕ → Type 0) → LeafGoalsJoin Goals
 join_right Goals net tree parts is has =

@@ -1,10 +1,10 @@
 -- AlmostSurely: meetings of uniformly random pairs bring the outputs to rest with probability 1, and how soon. All runs of
 -- l meetings are equally likely. So a bound on how many runs don't do it is one on the probability.
-use Rattle.std.specs.Prelude.{◌≡◌, ◌⊎◌, ℕ, ◌*◌, ◌-◌, ◌^◌, ◌<◌, ◌≤◌, Bool, List, length, Contains}
+use Rattle.std.specs.Prelude.{◌≡◌, ◌⊎◌, ℕ, zero, suc, ◌+◌, ◌*◌, ◌-◌, ◌^◌, ◌<◌, ◌≤◌, Bool, List, length, Contains}
 use Rattle.pres_ast.specs.PredTree.{PredTree}
 use Rattle.pop_net.specs.NetModel.{NetModel, CrowdModel}
 use Rattle.pop_random.specs.UniformRuns.{after_run}
-use Rattle.pop_random.specs.RandomMeetings.{runs, run_count, meet}
+use Rattle.pop_random.specs.RandomMeetings.{pairs, runs, run_count, meet}
 use Rattle.pop_random.specs.ComputesAlmostSurely.{SettleOnTheWay}
 use Rattle.net_goals.specs.OutputStable.{IsOutputStable}
 
@@ -13,6 +13,11 @@ pub record AllBut {A : Type 0} (q : ℕ) (xs : List A) (P : A → Type 0) : Type
   pub others : List A
   pub few : length others ≤ q
   pub rest : (x : A) → Contains xs x → Contains others x ⊎ P x
+
+-- the sum of the shares few i / n ^ i over all i below l, times n ^ l
+abbrev pub sum_of_shares : (ℕ → ℕ) → ℕ → ℕ → ℕ
+sum_of_shares few n zero = 0
+sum_of_shares few n (suc l) = (sum_of_shares few n l + few l) * n
 
 -- the run leads the crowd to one from which on every agent outputs the value
 abbrev pub LeadsToOutput : NetModel → Bool → CrowdModel → List (ℕ × ℕ) → Type 0
@@ -30,6 +35,12 @@ pub record RestsAlmostSurely (net : NetModel) (value : Bool) (k : ℕ) (crowd : 
   pub vanishes : (e l : ℕ) → e * run_count k (length crowd) * (k * length crowd) ≤ l
       → (q : ℕ) × (q * e < length (runs (length crowd) l))
       × AllBut q (runs (length crowd) l) (LeadsToOutput net value crowd)
+  -- E[min(T, l)] = P(T > 0) + .. + P(T > l - 1) <= k * n * c for all l: so E[T] <= k * n * c. Here few i of the N ^ i
+  -- runs of i meetings bound P(T > i), with the N pairs
+  pub expected : (few : ℕ → ℕ)
+      × ((i : ℕ) → AllBut (few i) (runs (length crowd) i) (LeadsToOutput net value crowd))
+      × ((l : ℕ) → sum_of_shares few (length (pairs (length crowd))) l
+      ≤ k * length crowd * run_count k (length crowd) * length (runs (length crowd) l))
 
 -- at each crowd on the way from an input, with the predicate's value
 abbrev pub RestAlmostSurely : NetModel → PredTree → ℕ → Type 0

@@ -1,3 +1,4 @@
+pub mod AnyNet
 pub mod OutputStable
 pub mod AlmostSurely
 pub mod StablyRight

@@ -24,5 +24,5 @@ pub record IsStablyRight (net : NetModel) (tree : PredTree) (k : ℕ) : Type 0 w
   pub fair_synchronous : StablyOutputs (SynchronousStep net) net tree
   -- for a single net, in the fair executions by meetings
   pub fair_meetings : IsSingle net → StablyOutputs (MeetingStep net) net tree
-  -- and by meetings of uniformly random pairs, with probability 1
+  -- for a single net, meetings of uniformly random pairs bring the outputs to rest with probability 1
   pub random : IsSingle net → RestAlmostSurely net tree k

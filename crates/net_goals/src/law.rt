@@ -1,5 +1,6 @@
 //! The law of leaves with goals.
 
+ghost use Rattle.net_goals.specs.AnyNet.{FairOfAllKinds};
 ghost use Rattle.net_goals.specs.Laws.{LeafGoalsJoin, MixedLeavesAreRight};
 
 /// For each leaf and each input, a set of crowds of the leaf.
@@ -19,4 +20,10 @@ pub fn leaf_goals_join<G: LeafGoals>()
 /// So for leaves of which some fall silent and others only come to a set that isn't left. A theorem; the body is empty.
 pub fn silent_and_stable_leaves()
     ensures { MixedLeavesAreRight }
+{}
+
+/// Each finite execution of a net is the beginning of a fair one, and one that is fair for maps is fair for multisets,
+/// whether the net ever comes to rest or not. A theorem; the body is empty.
+pub fn fairness_of_any_net()
+    ensures { FairOfAllKinds }
 {}

@@ -5,4 +5,4 @@
 
 mod law;
 
-pub use law::{LeafGoals, leaf_goals_join, silent_and_stable_leaves};
+pub use law::{LeafGoals, fairness_of_any_net, leaf_goals_join, silent_and_stable_leaves};

@@ -3,6 +3,9 @@ use Rattle.std.proofs.Common.{◌≡◌, ◌⊎◌, inl, inr, ℕ, ◌+◌, ◌<
 use Rattle.std.specs.Prelude.{Some, slice_get, ◌↔◌, IsTrue}
 use Rattle.std.proofs.lemmas.Bool.{cases_lt}
 use Rattle.std.proofs.lemmas.Option.{slice_get_read, slice_get_within}
+use Rattle.pop_io.specs.declared.failure.Failure.{Failure}
+use Rattle.pop_io.specs.declared.failure.Failure.TheVariants.{Fault, NoMemory}
+use Rattle.pop_io.specs.Failures.{Names}
 use Rattle.pres_ast.specs.PredModel.{PredModel}
 use Rattle.pop_net.specs.LeafModel.{LeafModel}
 use Rattle.pop_net.specs.NetModel.{NetModel}
@@ -20,7 +23,7 @@ pub right-valid : (net : NetModel) (proof : Proof) (n : ℕ) → AreRightBefore 
 right-valid net proof n right = λ i leaf part l h k. (right i leaf part l h k).valid
 
 -- the fault of the first leaf that is not right is the whole check's
-pub first_fault : (net : NetModel) (proof : Proof) (p : PredModel) (i : ℕ) (leaf : LeafModel) (part : LeafProof) (fault : Rejected) → AreRightBefore net proof.leaves i → slice_get net.leaves i ≡ Some leaf → slice_get proof.leaves i ≡ Some part → IsPartFault leaf part i fault → IsRejected net p proof fault
+first_fault : (net : NetModel) (proof : Proof) (p : PredModel) (i : ℕ) (leaf : LeafModel) (part : LeafProof) (fault : Rejected) → AreRightBefore net proof.leaves i → slice_get net.leaves i ≡ Some leaf → slice_get proof.leaves i ≡ Some part → IsPartFault leaf part i fault → IsRejected net p proof fault
 first_fault net proof p i leaf part (Layers j why) right h k is =
     subst (λ (n : ℕ). IsFirstRejected net proof n (λ l q. RejectsLayers l q why)) (sym is.0)
     (record { before = right-valid net proof i right; leaf = leaf; part = part; leaf_is = h; part_is = k; rejected = is.1 })
@@ -28,6 +31,10 @@ first_fault net proof p i leaf part (Tree j value node why) right h k is =
     subst (λ (n : ℕ). IsFirstRejected net proof n (λ l q. RejectsTree l q value node why)) (sym is.0)
     (record { before = right-valid net proof i right; leaf = leaf; part = part; leaf_is = h; part_is = k; rejected = is.1 })
 first_fault net proof p i leaf part Predicate right h k is = absurd is
+
+pub first_named : (net : NetModel) (proof : Proof) (p : PredModel) (i : ℕ) (leaf : LeafModel) (part : LeafProof) (failure : Failure Rejected) → AreRightBefore net proof.leaves i → slice_get net.leaves i ≡ Some leaf → slice_get proof.leaves i ≡ Some part → Names (IsPartFault leaf part i) failure → Names (IsRejected net p proof) failure
+first_named net proof p i leaf part (Fault rejected) right h k is = first_fault net proof p i leaf part rejected right h k is
+first_named net proof p i leaf part NoMemory right h k is = tt
 
 -- one leaf more
 pub one_more : (net : NetModel) (parts : List LeafProof) (i : ℕ) (leaf : LeafModel) (part : LeafProof) → AreRightBefore net parts i → slice_get net.leaves i ≡ Some leaf → slice_get parts i ≡ Some part → IsRightPart leaf part → AreRightBefore net parts (i + 1)

@@ -1,4 +1,3 @@
-pub mod Formats
 pub mod Bounds
 pub mod Firsts
 pub mod OneFault

@@ -29,7 +29,7 @@ use Rattle.pop_checker.proofs.Firsts.{all_valid}
 
 -- ---- the layers of a leaf
 
-one_first : (P : ℕ → Type 0) (m n : ℕ) → IsFirstFailing P m → IsFirstFailing P n → m ≡ n
+pub one_first : (P : ℕ → Type 0) (m n : ℕ) → IsFirstFailing P m → IsFirstFailing P n → m ≡ n
 one_first P m n f g = go (cases_lt m n) (cases_lt n m)
   where
     go : (m < n) ⊎ (n ≤ m) → (n < m) ⊎ (m ≤ n) → m ≡ n
@@ -64,7 +64,7 @@ one_layer_fault leaf layers (Wakes n t) (Wakes m u) f g =
 -- ---- the trees of a leaf
 
 -- the number and the reason of a node that is refused
-abbrev Named : Type 0
+abbrev pub Named : Type 0
 Named = ℕ × TreeWhy
 
 same_named : (named other : Named) → Some named ≡ Some other → named ≡ other
@@ -75,25 +75,25 @@ one_tree_fault leaf p value nodes named other f g = same_named named other (sym 
 
 not_closed : (leaf : LeafModel) (p : PredModel) (value : Bool) (nodes : List Node) (named : Named) → Closes leaf (base_list leaf p value) nodes [] → first_refused leaf p value nodes ≡ Some named → ⊥
 not_closed leaf p value nodes named closes is =
-    let none = only_memory leaf p value nodes (Fault (record { node = named.0; why = named.1 })) is closes in cc
+    let none = only_memory leaf leaf (base_list leaf p value) nodes (Fault (record { node = named.0; why = named.1 })) is closes in cc
 
 -- ---- a leaf's proof
 
-not_valid_layers : (leaf : LeafModel) (part : LeafProof) (why : LayerWhy) → ValidLayers leaf part.layers → RejectsLayers leaf part why → ⊥
+pub not_valid_layers : (leaf : LeafModel) (part : LeafProof) (why : LayerWhy) → ValidLayers leaf part.layers → RejectsLayers leaf part why → ⊥
 not_valid_layers leaf part why valid rejects =
     let none = accepted leaf part.layers part.layers (Err (Fault why)) refl rejects valid in cc
 
-not_valid_tree : (leaf : LeafModel) (part : LeafProof) (value : Bool) (named : Named) → ValidLeafProof leaf part → RejectsTree leaf part value named.0 named.1 → ⊥
+pub not_valid_tree : (leaf : LeafModel) (part : LeafProof) (value : Bool) (named : Named) → ValidLeafProof leaf part → RejectsTree leaf part value named.0 named.1 → ⊥
 not_valid_tree leaf part true named valid rejects =
     not_closed leaf part.pred true part.on_true named valid.on_true rejects.1
 not_valid_tree leaf part false named valid rejects =
     not_closed leaf part.pred false part.on_false named valid.on_false rejects.2
 
-tree_layers : (leaf : LeafModel) (part : LeafProof) (value : Bool) (named : Named) → RejectsTree leaf part value named.0 named.1 → ValidLayers leaf part.layers
+pub tree_layers : (leaf : LeafModel) (part : LeafProof) (value : Bool) (named : Named) → RejectsTree leaf part value named.0 named.1 → ValidLayers leaf part.layers
 tree_layers leaf part true named rejects = rejects.0
 tree_layers leaf part false named rejects = rejects.0
 
-one_tree : (leaf : LeafModel) (part : LeafProof) (value another : Bool) (named other : Named) → RejectsTree leaf part value named.0 named.1 → RejectsTree leaf part another other.0 other.1 → (value ≡ another) × (named ≡ other)
+pub one_tree : (leaf : LeafModel) (part : LeafProof) (value another : Bool) (named other : Named) → RejectsTree leaf part value named.0 named.1 → RejectsTree leaf part another other.0 other.1 → (value ≡ another) × (named ≡ other)
 one_tree leaf part true true named other r s =
     (refl, one_tree_fault leaf part.pred true part.on_true named other r.1 s.1)
 one_tree leaf part true false named other r s =

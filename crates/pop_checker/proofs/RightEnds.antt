@@ -1,209 +1,27 @@
 -- Nodes that close the base facts leave no wrong end, so a net with a valid proof computes the predicate.
-use Rattle.std.proofs.Common.{◌≡◌, ◌⊎◌, inl, inr, ℕ, zero, suc, Bool, true, false, not, ◌&&◌, List, [], ◌∷◌, ◌++◌, length, map, refl, sym, subst, ◌∙◌, arith}
-use Rattle.std.specs.Prelude.{Option, Some, None, pos, ◌==◌, nat_lt, slice_get, if◌then◌else◌}
-use Rattle.std.specs.List.{list_all, filter}
-use Rattle.std.proofs.lemmas.Bool.{ltb-true}
-use Rattle.std.proofs.lemmas.List.Elements.{All-append}
+use Rattle.std.proofs.Common.{◌≡◌, Bool, true, false, List, [], length, refl, sym, ◌∙◌}
 use Rattle.pop_net.proofs.Quiet.{All-slice_get}
-use Rattle.pres_ast.specs.PredTree.{PredTree, LessThan, Congruent, Negation, Conjunction, Disjunction}
 use Rattle.pres_ast.specs.PredModel.{PredModel, HasAtoms}
-use Rattle.pop_net.specs.declared.leaf.Move.{Move}
 use Rattle.pop_net.specs.LeafModel.{LeafModel, IsLeaf}
 use Rattle.pop_net.specs.NetModel.{NetModel, IsNet}
-use Rattle.cert_base.specs.declared.fact.Fact.{Fact}
-use Rattle.cert_base.specs.declared.fact.Fact.TheVariants.{Ge, Eq, Cong, NotCong, Holds}
 use Rattle.cert_base.specs.declared.node.Node.{Node}
-use Rattle.cert_base.specs.declared.node.Node.TheVariants.{Linear, Residue, Split, Present, Twin, Trap, Siphon, Open}
 use Rattle.cert_base.specs.declared.proof.Proof.{Proof}
-use Rattle.cert_base.specs.Rows.{single_row, input_variable, move_variable, variable_count, constant_row}
-use Rattle.cert_base.specs.Valuation.{Valuation, MeetsFact}
-use Rattle.cert_base.specs.FactsAndCases.{states_of, flow, two_agents_fact, wrong_output_fact, base_list, can_meet_in, absent_fact, alone_fact, not_twice, cases_of_present, is_in, takes_from, puts_into, places_from, no_moves, no_start_facts, count_row, cases_of_trap, cases_of_siphon, cases_of_split, open_tree, cases_of_open, helpers_among, no_helper_facts}
-use Rattle.cert_base.specs.Closes.{name_below, refutes, where_in_range, opened, only_case, cases_of, ClosesUnder, refuted, by_cases, ClosesEach, no_case, next_case, Closes}
-use Rattle.cert_base.specs.Ends.{IsEnd, MeetsAll, MeetsOne, EndsRight}
+use Rattle.cert_base.specs.FactsAndCases.{base_list}
+use Rattle.cert_base.specs.Closes.{Closes}
+use Rattle.cert_base.specs.Ends.{EndsRight}
 use Rattle.cert_base.specs.ValidProof.{ValidProof}
-use Rattle.cert_base.proofs.Openings.{open_cases-cover, split_cases-cover}
 use Rattle.cert_base.proofs.WrongEnds.{wrong_ends-met}
-use Rattle.cert_linear.proofs.Linear.{linear_closes-none}
-use Rattle.cert_linear.proofs.Multiples.{residue_closes-none}
-use Rattle.cert_traps.proofs.PresentEnds.{twin_met}
-use Rattle.cert_traps.proofs.Covers.{present-cover, trap-cover, siphon-cover}
-use Rattle.cert_tree.specs.Frames.{CoverUnder}
+use Rattle.cert_tree.proofs.ClosedEnds.{base_formed, closes_none}
 use Rattle.cert_tree.proofs.Verdicts.{ends_right}
 use Rattle.pop_checker.specs.Sound.{ArePreds, IsSound}
 use Rattle.pop_checker.specs.Parts.{AreRightBefore}
 use Rattle.pop_checker.proofs.Verdicts.{right_by}
 
--- ---- facts of predicates within the limits
-
--- a predicate in a fact has coefficients for its own variables alone
-abbrev IsFormed : Fact → Type 0
-IsFormed (Ge row) = Unit {0}
-IsFormed (Eq row) = Unit {0}
-IsFormed (Cong row m) = Unit {0}
-IsFormed (NotCong row m) = Unit {0}
-IsFormed (Holds p b) = HasAtoms p.variables p.tree
-
-abbrev AreFormed : List Fact → Type 0
-AreFormed [] = Unit {0}
-AreFormed (f ∷ facts) = IsFormed f × AreFormed facts
-
-abbrev AreCasesFormed : List (List Fact) → Type 0
-AreCasesFormed [] = Unit {0}
-AreCasesFormed (own ∷ cases) = AreFormed own × AreCasesFormed cases
-
-append_formed : (xs ys : List Fact) → AreFormed xs → AreFormed ys → AreFormed (xs ++ ys)
-append_formed [] ys h k = k
-append_formed (f ∷ xs) ys h k = (h.0, append_formed xs ys h.1 k)
-
-map_formed : (make : ℕ → Fact) (xs : List ℕ) → ((x : ℕ) → IsFormed (make x)) → AreFormed (map make xs)
-map_formed make [] h = tt
-map_formed make (x ∷ xs) h = (h x, map_formed make xs h)
-
-formed_at : (facts : List Fact) (i : ℕ) (f : Fact) → AreFormed facts → slice_get facts i ≡ Some f → IsFormed f
-formed_at [] i f h e = cc
-formed_at (first ∷ facts) zero f h e = let same : first ≡ f = cc in subst (λ (g : Fact). IsFormed g) same h.0
-formed_at (first ∷ facts) (suc i) f h e = formed_at facts i f h.1 e
-
-base_formed : (leaf : LeafModel) (p : PredModel) (value : Bool) → HasAtoms p.variables p.tree → AreFormed (base_list leaf p value)
-base_formed leaf p value has =
-    append_formed (map (flow leaf) (states_of leaf)) (two_agents_fact leaf ∷ Holds p value ∷ wrong_output_fact leaf value ∷ []) (map_formed (flow leaf) (states_of leaf) (λ q. tt)) (tt, (has, (tt, tt)))
-
-alone_formed : (leaf : LeafModel) (p : ℕ) (twice : Bool) → AreFormed (if twice then (alone_fact leaf p ∷ []) else [])
-alone_formed leaf p true = (tt, tt)
-alone_formed leaf p false = tt
-
-present_formed : (leaf : LeafModel) (p : ℕ) → AreCasesFormed (cases_of_present leaf p)
-present_formed leaf p =
-    let others = filter (λ q. not (q == p) && can_meet_in leaf p q) (states_of leaf) in
-    let twice : List Fact = if can_meet_in leaf p p then (alone_fact leaf p ∷ []) else [] in
-    let later : AreFormed (map (absent_fact leaf) others ++ twice) = append_formed (map (absent_fact leaf) others) twice (map_formed (absent_fact leaf) others (λ q. tt)) (alone_formed leaf p (can_meet_in leaf p p)) in
-    ((tt, tt), ((tt, later), tt))
-
-taken_formed : (leaf : LeafModel) (test : Move → Bool) → AreFormed (no_moves leaf test)
-taken_formed leaf test = map_formed (λ t. Eq (single_row (move_variable leaf t) (pos 1) (pos 0))) (places_from 0 test leaf.moves) (λ t. tt)
-
-started_formed : (leaf : LeafModel) (set : List ℕ) → AreFormed (no_start_facts leaf set)
-started_formed leaf set = map_formed (λ i. Eq (single_row (input_variable leaf i) (pos 1) (pos 0))) (places_from 0 (is_in set) leaf.inputs) (λ i. tt)
-
-none_helps_formed : (leaf : LeafModel) (set : List ℕ) (b : Bool) → AreFormed (if b then [] else (Eq (constant_row (pos (helpers_among leaf set))) ∷ []))
-none_helps_formed leaf set true = tt
-none_helps_formed leaf set false = (tt, tt)
-
-trap_formed : (leaf : LeafModel) (set : List ℕ) → AreCasesFormed (cases_of_trap leaf set)
-trap_formed leaf set =
-    let unmarked = append_formed (no_moves leaf (puts_into set)) (no_start_facts leaf set) (taken_formed leaf (puts_into set)) (started_formed leaf set) in
-    ((tt, tt), (append_formed (no_moves leaf (puts_into set) ++ no_start_facts leaf set) (Eq (count_row leaf set (pos 0)) ∷ no_helper_facts leaf set) unmarked (tt, none_helps_formed leaf set (helpers_among leaf set == 0)), ((tt, tt), tt)))
-
-siphon_formed : (leaf : LeafModel) (set : List ℕ) → AreCasesFormed (cases_of_siphon leaf set)
-siphon_formed leaf set =
-    ((tt, tt), ((tt, tt), (append_formed (no_moves leaf (takes_from set)) (Eq (count_row leaf set (pos 0)) ∷ []) (taken_formed leaf (takes_from set)) (tt, tt), tt)))
-
-open_formed : (n : ℕ) (tree : PredTree) (value : Bool) → HasAtoms n tree → AreCasesFormed (open_tree n tree value)
-open_formed n (LessThan coefs bound) true has = ((tt, tt), tt)
-open_formed n (LessThan coefs bound) false has = ((tt, tt), tt)
-open_formed n (Congruent coefs m rest) true has = ((tt, tt), tt)
-open_formed n (Congruent coefs m rest) false has = ((tt, tt), tt)
-open_formed n (Negation p) value has = ((has, tt), tt)
-open_formed n (Conjunction p q) true has = ((has.0, (has.1, tt)), tt)
-open_formed n (Conjunction p q) false has = ((has.0, tt), ((has.1, tt), tt))
-open_formed n (Disjunction p q) true has = ((has.0, tt), ((has.1, tt), tt))
-open_formed n (Disjunction p q) false has = ((has.0, (has.1, tt)), tt)
-
--- ---- the cases of a node
-
--- the cases are formed, and every end that meets the facts meets one of them
-abbrev IsCover : LeafModel → List Fact → List (List Fact) → Type 0
-IsCover leaf facts cases = AreCasesFormed cases × CoverUnder leaf facts cases
-
-in_range_is : (b : Bool) (given cases : List (List Fact)) → where_in_range b given ≡ Some cases → (b ≡ true) × (given ≡ cases)
-in_range_is true given cases e = (refl, cc)
-in_range_is false given cases e = cc
-
-twin_is : (leaf : LeafModel) (p : ℕ) (b meets : Bool) (cases : List (List Fact)) → (if b then only_case (if meets then Some (not_twice leaf p ∷ []) else None) else None) ≡ Some cases → (b ≡ true) × (meets ≡ true) × ((not_twice leaf p ∷ []) ∷ [] ≡ cases)
-twin_is leaf p true true cases e = (refl, refl, cc)
-twin_is leaf p true false cases e = cc
-twin_is leaf p false meets cases e = cc
-
-opened_cover : (leaf : LeafModel) (facts : List Fact) (i : ℕ) (o : Option Fact) (cases : List (List Fact)) → AreFormed facts → slice_get facts i ≡ o → opened o ≡ Some cases → IsCover leaf facts cases
-opened_cover leaf facts i None cases formed h e = cc
-opened_cover leaf facts i (Some (Ge row)) cases formed h e = cc
-opened_cover leaf facts i (Some (Eq row)) cases formed h e = cc
-opened_cover leaf facts i (Some (Cong row m)) cases formed h e = cc
-opened_cover leaf facts i (Some (NotCong row m)) cases formed h e = cc
-opened_cover leaf facts i (Some (Holds p b)) cases formed h e =
-    let is : cases_of_open p b ≡ cases = cc in
-    let has : HasAtoms p.variables p.tree = formed_at facts i (Holds p b) formed h in
-    subst (λ (cs : List (List Fact)). IsCover leaf facts cs) is
-    (open_formed p.variables p.tree b has, λ count end meets. open_cases-cover p b has count (All-slice_get (MeetsFact count) facts i (Holds p b) meets h))
-
-node_cover : (leaf : LeafModel) (facts : List Fact) (node : Node) (cases : List (List Fact)) → IsLeaf leaf → AreFormed facts → cases_of leaf facts node ≡ Some cases → IsCover leaf facts cases
-node_cover leaf facts (Linear terms) cases is formed e = cc
-node_cover leaf facts (Residue m terms) cases is formed e = cc
-node_cover leaf facts (Split row) cases is formed e =
-    let given = in_range_is (name_below (variable_count leaf) row.terms) (cases_of_split row) cases e in
-    subst (λ (cs : List (List Fact)). IsCover leaf facts cs) given.1
-    (((tt, tt), ((tt, tt), ((tt, tt), tt))), λ count end meets. split_cases-cover row count)
-node_cover leaf facts (Present p) cases is formed e =
-    let given = in_range_is (nat_lt p (length leaf.states)) (cases_of_present leaf p) cases e in
-    let l = ltb-true p (length leaf.states) given.0 in
-    subst (λ (cs : List (List Fact)). IsCover leaf facts cs) given.1
-    (present_formed leaf p, λ count end meets. present-cover leaf p l count end)
-node_cover leaf facts (Twin p) cases is formed e =
-    let given = twin_is leaf p (nat_lt p (length leaf.states)) (can_meet_in leaf p p) cases e in
-    let l = ltb-true p (length leaf.states) given.0 in
-    subst (λ (cs : List (List Fact)). IsCover leaf facts cs) given.2
-    (((tt, tt), tt), λ count end meets. twin_met leaf count end.end end.execution.states end.terminal p l given.1)
-node_cover leaf facts (Trap set) cases is formed e =
-    let given = in_range_is (list_all (λ q. nat_lt q (length leaf.states)) set) (cases_of_trap leaf set) cases e in
-    subst (λ (cs : List (List Fact)). IsCover leaf facts cs) given.1
-    (trap_formed leaf set, λ count end meets. trap-cover leaf set is count end)
-node_cover leaf facts (Siphon set) cases is formed e =
-    let given = in_range_is (list_all (λ q. nat_lt q (length leaf.states)) set) (cases_of_siphon leaf set) cases e in
-    subst (λ (cs : List (List Fact)). IsCover leaf facts cs) given.1
-    (siphon_formed leaf set, λ count end meets. siphon-cover leaf set count end)
-node_cover leaf facts (Open f) cases is formed e = opened_cover leaf facts f (slice_get facts f) cases formed refl e
-
--- ---- the nodes
-
-refutes_none : (facts : List Fact) (node : Node) → refutes facts node ≡ true → (count : Valuation) → MeetsAll count facts → ⊥
-refutes_none facts (Linear terms) e count meets = linear_closes-none count facts terms e meets
-refutes_none facts (Residue m terms) e count meets = residue_closes-none count facts m terms e meets
-refutes_none facts (Split row) e count meets = cc
-refutes_none facts (Present p) e count meets = cc
-refutes_none facts (Twin p) e count meets = cc
-refutes_none facts (Trap set) e count meets = cc
-refutes_none facts (Siphon set) e count meets = cc
-refutes_none facts (Open f) e count meets = cc
-
-no_case_met : (count : Valuation) → MeetsOne count [] → ⊥
-no_case_met count one = let l = one.1.1 in absurd (omega (arith, l))
-
-case_met : (count : Valuation) (own : List Fact) (cases : List (List Fact)) → MeetsOne count (own ∷ cases) → MeetsAll count own ⊎ MeetsOne count cases
-case_met count own cases (facts, (zero, l, e), met) = inl (subst (λ (fs : List Fact). MeetsAll count fs) (sym e) met)
-case_met count own cases (facts, (suc k, l, e), met) = inr (facts, (k, omega (arith, l), e), met)
-
-mutual
-  closes_none : {leaf : LeafModel} {above : ℕ} {facts : List Fact} {nodes rest : List Node} → ClosesUnder leaf above facts nodes rest → IsLeaf leaf → AreFormed facts → (count : Valuation) → IsEnd leaf count → MeetsAll count facts → ⊥
-  closes_none {leaf} (refuted above facts node rest limits r) is formed count end meets = refutes_none facts node r count meets
-  closes_none {leaf} (by_cases above facts node nodes rest cases limits c each) is formed count end meets =
-      let cover = node_cover leaf facts node cases is formed c in
-      each_none each is formed cover.0 count end meets (cover.1 count end meets)
-
-  each_none : {leaf : LeafModel} {above : ℕ} {facts : List Fact} {cases : List (List Fact)} {nodes rest : List Node} → ClosesEach leaf above facts cases nodes rest → IsLeaf leaf → AreFormed facts → AreCasesFormed cases → (count : Valuation) → IsEnd leaf count → MeetsAll count facts → MeetsOne count cases → ⊥
-  each_none {leaf} (no_case above facts rest) is formed own_formed count end meets one = no_case_met count one
-  each_none {leaf} (next_case above facts own cases nodes between rest first others) is formed own_formed count end meets one =
-      elim (case_met count own cases one) [
-        | inl met ↦ closes_none first is (append_formed facts own formed own_formed.0) count end (All-append (MeetsFact count) facts own meets met)
-        | inr later ↦ each_none others is formed own_formed.1 count end meets later
-      ]
-
--- ---- a leaf, and a net
-
 -- if the nodes close the base facts, every terminal end outputs the value
 pub closes_right : (leaf : LeafModel) (p : PredModel) (value : Bool) (nodes : List Node) → IsLeaf leaf → p.variables ≡ length leaf.inputs → HasAtoms p.variables p.tree → Closes leaf (base_list leaf p value) nodes [] → EndsRight leaf p.tree value
 closes_right leaf p value nodes is over has closes =
     ends_right leaf p.tree value
-    (λ count wrong. closes_none closes is (base_formed leaf p value has) count wrong.reached (wrong_ends-met leaf p value is over count wrong))
+    (λ count wrong. closes_none closes is (record { inputs = refl; states = refl }) (base_formed leaf p value has) count wrong.reached (wrong_ends-met leaf p value is over count wrong))
 
 valid_right : (net : NetModel) (p : PredModel) (proof : Proof) → IsNet net → ArePreds net proof → ValidProof net p proof → AreRightBefore net proof.leaves (length net.leaves)
 valid_right net p proof is preds valid i leaf part l h k =

@@ -39,7 +39,7 @@ fn check_parts(alloc: Global, net: &Net, proof: &Proof) -> Result<u64, Failure<R
     ensures formed { IsNet net.now }
     ensures right { OnOk result (AreRightBefore net.now proof.now.leaves (length net.now.leaves)) }
     ensures bound { IfOk result (λ bound. bound ≡ proof_bound proof.now) }
-    ensures fault { IfFault result (λ rejected. (p : PredModel) → IsRejected net.now p proof.now rejected) }
+    ensures fault { (p : PredModel) → IfFault result (IsRejected net.now p proof.now) }
     ensures accepts { AreValidBefore net.now proof.now (length net.now.leaves) → OnlyMemory result }
 {
     // What the invariant says is known from here on.

@@ -1,5 +1,5 @@
 -- The steps and the terminal crowds of a hushed leaf.
-use Rattle.std.proofs.Common.{◌≡◌, ◌≢◌, ◌⊎◌, inl, inr, ℕ, List, refl, ap, sym, subst, ◌∙◌}
+use Rattle.std.proofs.Common.{◌≡◌, ◌⊎◌, inl, inr, ℕ, List, refl, ap, sym, subst, ◌∙◌}
 use Rattle.std.specs.Prelude.{Some, false, slice_get, slice_set, Contains}
 use Rattle.std.proofs.lemmas.Bool.{false≢true}
 use Rattle.pop_net.specs.declared.leaf.Move.{Move}

@@ -10,8 +10,8 @@ use Rattle.pop_checker.specs.declared.fault.Rejected.{Rejected}
 use Rattle.pop_checker.specs.declared.fault.Rejected.TheVariants.{Layers, Tree, Predicate}
 use Rattle.cert_goals.specs.declared.fault.SetFault.{SetFault}
 use Rattle.cert_goals.specs.declared.fault.SetFault.TheVariants.{Output as HasOutput, Leaves, Wakes as WakesMove}
-use Rattle.cert_goals.specs.declared.goal.GoalWhy.{GoalWhy}
-use Rattle.cert_goals.specs.declared.goal.GoalWhy.TheVariants.{Layers as OfLayers, Set, Tree as OfTree}
+use Rattle.cert_goals.specs.declared.fault.GoalWhy.{GoalWhy}
+use Rattle.cert_goals.specs.declared.fault.GoalWhy.TheVariants.{Layers as OfLayers, Set, Node}
 use Rattle.goal_checker.specs.declared.fault.StableRejected.{StableRejected}
 use Rattle.goal_checker.specs.declared.fault.StableRejected.TheVariants.{Plain, Goal}
 use Rattle.tool_texts.specs.declared.output.Ending.TheVariants as ending
@@ -53,7 +53,7 @@ set_words (WakesMove set move woken) =
 abbrev pub goal_words : GoalWhy → List ℕ
 goal_words (OfLayers why) = codes "layers " ++ layer_words why
 goal_words (Set fault) = set_words fault
-goal_words (OfTree fault) = decimal fault.node ++ codes " " ++ tree_words fault.why
+goal_words (Node fault) = decimal fault.node ++ codes " " ++ tree_words fault.why
 
 -- a proof without goals is rejected in the same words
 abbrev pub stable_rejected_text : StableRejected → List ℕ

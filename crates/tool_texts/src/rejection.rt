@@ -116,7 +116,7 @@ impl fmt::Display for GoalWords {
                 write!(f, "layers {why}")
             }
             GoalWhy::Set(fault) => SetWords(fault).fmt(f),
-            GoalWhy::Tree(TreeFault { node, why }) => {
+            GoalWhy::Node(TreeFault { node, why }) => {
                 let why = TreeWords(why);
                 write!(f, "{node} {why}")
             }

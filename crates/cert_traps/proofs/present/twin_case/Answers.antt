@@ -3,7 +3,7 @@ use Rattle.std.specs.Prelude.{Option, Some, None, IfSome, if◌then◌else◌}
 use Rattle.std.proofs.lemmas.Result.{IfOk-weaker}
 use Rattle.cert_base.specs.declared.fact.Fact.{Fact}
 use Rattle.cert_base.specs.FactsAndCases.{not_twice, case_of_twin}
-use Rattle.cert_base.specs.Ends.{Cover}
+use Rattle.cert_base.specs.Ends.{CoverDead}
 use Rattle.cert_traps.proofs.Covers.{twin-cover}
 use Rattle.cert_traps.proofs.Lists.{read_is, twin_as}
 use Rattle.cert_traps.proofs.present.twin_case.Goals as goal
@@ -21,6 +21,6 @@ pub returns-clause-cover : goal.returns-clause-cover
 returns-clause-cover c =
     IfOk-weaker c.twin.result
     (λ case. case ≡ case_of_twin c.args.leaf.now c.args.state)
-    (λ case. IfSome case (λ facts. Cover c.args.leaf.now (facts ∷ [])))
-    (λ case e. subst (λ (case : Option (List Fact)). IfSome case (λ facts. Cover c.args.leaf.now (facts ∷ []))) (sym e) (twin-cover c.args.leaf.now c.args.state c.requires))
+    (λ case. IfSome case (λ facts. CoverDead c.args.leaf.now (facts ∷ [])))
+    (λ case e. subst (λ (case : Option (List Fact)). IfSome case (λ facts. CoverDead c.args.leaf.now (facts ∷ []))) (sym e) (twin-cover c.args.leaf.now c.args.state c.requires))
     (returns-clause-case c)

@@ -1,73 +1,15 @@
-use Rattle.std.proofs.Common.{◌≡◌, ◌≤◌, ◌+◌, ◌∙◌, List, ◌∷◌, [], ap, sym, subst, drop, length, arith}
-use Rattle.std.specs.Prelude.{Some}
-use Rattle.std.proofs.lemmas.List.{drop_all}
-use Rattle.cert_base.specs.FactsAndCases.{base_list}
-use Rattle.cert_tree.specs.declared.fault.TreeWhy.TheVariants.{Missing}
-use Rattle.cert_tree.specs.declared.fault.TreeFault.{TreeFault}
-use Rattle.pop_io.specs.declared.failure.Failure.TheVariants.{Fault}
-use Rattle.pop_io.specs.Failures.{Names}
-use Rattle.cert_tree.specs.Refusals.{Waiting, first_from, IsTreeFault}
-use Rattle.cert_tree.specs.Frames.{waiting, MeetsWaiting, StandsAtFirst}
-use Rattle.cert_tree.proofs.ClosedWalk.{unrefused-Closes}
-use Rattle.cert_tree.proofs.Verdicts.{broken_at, missing_at, none_at, only_memory, closed_right, cover_on, item_at}
+use Rattle.std.proofs.Common.{List, sym, subst}
+use Rattle.cert_base.specs.declared.fact.Fact.{Fact}
+use Rattle.cert_tree.specs.Frames.{IsFit}
+use Rattle.cert_tree.proofs.Starts.{base_fit}
+use Rattle.cert_tree.proofs.Trees.{tree_checked}
 use Rattle.cert_tree.proofs.tree.check_tree.Goals as goal
 
-pub loop-number-init : goal.loop-number-init
-loop-number-init c =
-    let start = c.in_ok-walk.ensures.start in
-    record {
-      nested = start.nested;
-      fit = start.fit;
-      same = ap (λ (cases : List Waiting). first_from c.args.leaf.now cases 0 c.args.nodes.now) (sym start.waits);
-      cover = λ count end meets. subst (MeetsWaiting count) (sym start.waits) meets;
-    }
-
-pub returns-in-Err : goal.returns-in-Err
-returns-in-Err c =
-    let items = c.as_slice-node-items.ensures in
-    let d = item_at c.args.nodes.now c.as_slice-node-items.result.now c.loop-number.number c.node-item.result items c.loop-number-test.true c.node-item.is in
-    let fault : Names (IsTreeFault c.args.leaf.now c.args.pred.now c.args.value c.args.nodes.now) c.at_node.result =
-    rw c.at_node.ensures (broken_at c.args.leaf.now c.args.pred.now c.args.value c.args.nodes.now (drop (c.loop-number.number + 1) c.args.nodes.now) (waiting c.loop-number.walk) c.loop-number.number c.node-item.result c.in-Err.halt c.loop-number.invariant.same d c.in-Err.ensures.halts) in
-    record {
-      closes = tt;
-      fault = fault;
-      accepts = only_memory c.args.leaf.now c.args.pred.now c.args.value c.args.nodes.now c.at_node.result fault;
-      right = tt;
-    }
-
-pub loop-number-preserved : goal.loop-number-preserved
-loop-number-preserved c =
-    let items = c.as_slice-node-items.ensures in
-    let d = item_at c.args.nodes.now c.as_slice-node-items.result.now c.loop-number.number c.node-item.result items c.loop-number-test.true c.node-item.is in
-    record {
-      nested = c.in_default.ensures.nested;
-      fit = c.in_default.ensures.fit;
-      same = c.loop-number.invariant.same ∙ ap (first_from c.args.leaf.now (waiting c.loop-number.walk) c.loop-number.number) d ∙ c.in_default.ensures.goes_on c.loop-number.number (drop (c.loop-number.number + 1) c.args.nodes.now);
-      cover = cover_on c.args.leaf.now ((0, base_list c.args.leaf.now c.args.pred.now c.args.value) ∷ []) (waiting c.loop-number.walk) (waiting c.visit.new.self) c.loop-number.invariant.cover c.in_default.ensures.cover;
-    }
-
-pub returns-then-branch : goal.returns-then-branch
-returns-then-branch c =
-    let at : StandsAtFirst (waiting c.loop-number.walk) c.next_case.new.self = rw c.if-branch.true at c.in_ok-next_case.ensures in
-    let past : length c.args.nodes.now ≤ c.loop-number.number = rw c.as_slice-node-items.ensures at c.loop-number-test.false in
-    let missing = missing_at c.args.leaf.now c.args.pred.now c.args.value c.args.nodes.now (at.above, c.next_case.new.self.trail) (waiting c.loop-number.walk) (waiting c.next_case.new.self) c.loop-number.number c.loop-number.invariant.same (drop_all c.loop-number.number c.args.nodes.now past) at.first in
-    let end : c.loop-number.number ≡ length c.as_slice.result.now = omega (arith, past, c.loop-number.auto.number-end, ap length c.as_slice-node-items.ensures, ap length c.as_slice.ensures) in
-    let named : TreeFault = record { node = length c.as_slice.result.now; why = Missing } in
-    let fault : IsTreeFault c.args.leaf.now c.args.pred.now c.args.value c.args.nodes.now named = missing ∙ ap (λ n. Some (n, Missing)) end in
-    record {
-      closes = tt;
-      fault = fault;
-      accepts = only_memory c.args.leaf.now c.args.pred.now c.args.value c.args.nodes.now (Fault named) fault;
-      right = tt;
-    }
+pub walk_nodes-requires-clause-fit : goal.walk_nodes-requires-clause-fit
+walk_nodes-requires-clause-fit c =
+    subst (λ (facts : List Fact). IsFit (0, facts)) (sym c.in_ok-facts.ensures.facts)
+    (base_fit c.args.leaf.now c.args.pred.now c.args.value c.state_count-formed.ensures.formed)
 
 pub returns : goal.returns
 returns c =
-    let none : waiting c.loop-number.walk ≡ [] = rw c.if-branch.false at c.in_ok-next_case.ensures in
-    let past : length c.args.nodes.now ≤ c.loop-number.number = rw c.as_slice-node-items.ensures at c.loop-number-test.false in
-    record {
-      closes = unrefused-Closes c.args.leaf.now c.args.pred.now c.args.value c.args.nodes.now c.in_ok-walk.ensures.start.few (none_at c.args.leaf.now c.args.pred.now c.args.value c.args.nodes.now (waiting c.loop-number.walk) c.loop-number.number c.loop-number.invariant.same (drop_all c.loop-number.number c.args.nodes.now past) none);
-      fault = tt;
-      accepts = λ closed. tt;
-      right = closed_right c.args.leaf.now c.args.pred.now c.args.value (waiting c.loop-number.walk) c.in_ok-walk.ensures.start.met c.loop-number.invariant.cover none;
-    }
+    tree_checked c.args.leaf.now c.args.pred.now c.args.value c.args.nodes.now c.in_ok-facts.facts c.walk_nodes.result c.in_ok-facts.ensures.facts c.in_ok-facts.ensures.met c.walk_nodes.ensures

@@ -1,15 +1,15 @@
 use Rattle.std.proofs.Common.{◌<◌, length, ap, arith}
 use Rattle.std.proofs.lemmas.Result.{err_from_is_err_and}
 use Rattle.cert_layers.proofs.Bounds.{bound_more}
-use Rattle.pop_checker.proofs.Firsts.{first_fault, one_more, part_at}
+use Rattle.pop_checker.proofs.Firsts.{first_named, one_more, part_at}
 use Rattle.pop_checker.proofs.whole.check_parts.Goals as goal
 
 pub returns-in_err-more-clause-fault : goal.returns-in_err-more-clause-fault
 returns-in_err-more-clause-fault c =
     let p = err_from_is_err_and c.from_residual.result c.from_residual.ensures.1 in
     let here = part_at c.args.proof.now.leaves c.as_slice-parts.result.now c.loop-number.number c.index-parts-number.result c.as_slice-parts.ensures c.loop-number-test.true c.index-parts-number.is in
-    rw (p.1, p.2)
-    (λ q. first_fault c.args.net.now c.args.proof.now q c.loop-number.number c.leaf.result.now c.index-parts-number.result c.in_err-more.field-0.0 c.loop-number.invariant.right c.leaf.ensures here c.in_err-more.ensures.fault)
+    λ q. rw (p.1, p.2)
+    (first_named c.args.net.now c.args.proof.now q c.loop-number.number c.leaf.result.now c.index-parts-number.result c.in_err-more.field-0.0 c.loop-number.invariant.right c.leaf.ensures here c.in_err-more.ensures.fault)
 
 pub returns-in_err-more-clause-accepts : goal.returns-in_err-more-clause-accepts
 returns-in_err-more-clause-accepts c =

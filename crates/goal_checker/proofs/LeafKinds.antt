@@ -1,6 +1,7 @@
 -- How each leaf of a proof with goals comes to rest, as the law of nets has it.
 use Rattle.std.proofs.Common.{◌≡◌, ℕ, zero, suc, ◌+◌, Bool, true, false, List, [], ◌∷◌, length, map, Some, refl, sym, ap, subst, ◌∙◌}
 use Rattle.std.specs.Prelude.{slice_get, sum_by}
+use Rattle.std.proofs.lemmas.List.Sums.{sum_by-cons}
 use Rattle.pres_ast.specs.PredTree.{PredTree}
 use Rattle.pop_net.specs.LeafModel.{LeafModel}
 use Rattle.cert_base.specs.declared.proof.Goal.{Goal}
@@ -55,7 +56,10 @@ kinds_bound [] (part ∷ parts) e = absurd cc
 kinds_bound (leaf ∷ leaves) [] e = absurd cc
 kinds_bound (leaf ∷ leaves) (part ∷ parts) e =
     let rest : length parts ≡ length leaves = cc in
-    ap (λ n. n + parts_bound (parts_of (kinds_of leaves parts))) (one_bound leaf part) ∙ ap (λ n. part_bound part + n) (kinds_bound leaves parts rest)
+    sum_by-cons (λ (p : LeafPart). p.bound) (part_of (kind_of leaf part)) (parts_of (kinds_of leaves parts))
+    ∙ ap (λ n. n + parts_bound (parts_of (kinds_of leaves parts))) (one_bound leaf part)
+    ∙ ap (λ n. part_bound part + n) (kinds_bound leaves parts rest)
+    ∙ sym (sum_by-cons part_bound part parts)
 
 one_tree : (leaf : LeafModel) (part : StablePart) → (kind_of leaf part).tree ≡ (pred_of_part part).tree
 one_tree leaf (Silent part) = refl
