@@ -12,3 +12,4 @@ pub mod Options
 pub mod Extend
 pub mod Right
 pub mod EitherKind
+pub mod Flickers

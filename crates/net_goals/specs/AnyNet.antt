@@ -9,6 +9,7 @@ use Rattle.pop_fair.specs.StablyComputes.{MeetingStep}
 use Rattle.pop_fair.specs.Synchronous.{SynchronousStep}
 use Rattle.pop_fair.specs.Extensions.{ExtendFairly}
 
+-- what holds of the fair executions of every net by these steps
 pub record FairOfAnyNet (S : NetModel → Relation) : Type 0 where
   -- each finite execution from an input is the beginning of a fair one: fairness excludes none of them
   pub extend : (net : NetModel) → ExtendFairly (S net) net
@@ -18,7 +19,7 @@ pub record FairOfAnyNet (S : NetModel → Relation) : Type 0 where
       → IsExecutionFrom IsSameMultiset (S net) net counts e → IsFair IsSameMap (S net) e
       → IsFair IsSameMultiset (MultisetStep (S net)) e
 
--- by steps, by steps in which no leaf waits, and by meetings
+-- so it does by steps, by steps in which no leaf waits, and by meetings
 pub record FairOfAllKinds : Type 0 where
   pub steps : FairOfAnyNet Step
   pub synchronous : FairOfAnyNet SynchronousStep

@@ -18,7 +18,7 @@ LeafGoalsJoin Goals =
     (net : NetModel) (tree : PredTree) (parts : List LeafPart) → IsNet net → HasLeafGoals net tree parts Goals
     → IsStablyRight net tree (parts_bound parts)
 
--- leaves that fall silent beside others
+-- leaves that fall silent, and others that come to sets which no step leaves, make a net stably right
 pub record MixedLeavesAreRight : Type 0 where
   -- a leaf with valid layers and no wrong end falls silent within its layers' bound
   pub silent : (leaf : LeafModel) (layers : List Layer) (tree : PredTree) → IsLeaf leaf → ValidLayers leaf layers

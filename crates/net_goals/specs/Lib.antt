@@ -5,3 +5,4 @@ pub mod StablyRight
 pub mod LeafGoals
 pub mod Kinds
 pub mod Laws
+pub mod Flicker

@@ -1,6 +1,7 @@
 //! The law of leaves with goals.
 
 ghost use Rattle.net_goals.specs.AnyNet.{FairOfAllKinds};
+ghost use Rattle.net_goals.specs.Flicker.{FlickerIsRight};
 ghost use Rattle.net_goals.specs.Laws.{LeafGoalsJoin, MixedLeavesAreRight};
 
 /// For each leaf and each input, a set of crowds of the leaf.
@@ -26,4 +27,9 @@ pub fn silent_and_stable_leaves()
 /// whether the net ever comes to rest or not. A theorem; the body is empty.
 pub fn fairness_of_any_net()
     ensures { FairOfAllKinds }
+{}
+
+/// A net that never falls silent, and is stably right: what the laws ask for can be met. A theorem; the body is empty.
+pub fn flickering_is_right()
+    ensures { FlickerIsRight }
 {}

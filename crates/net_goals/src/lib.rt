@@ -5,4 +5,6 @@
 
 mod law;
 
-pub use law::{LeafGoals, fairness_of_any_net, leaf_goals_join, silent_and_stable_leaves};
+pub use law::{
+    LeafGoals, fairness_of_any_net, flickering_is_right, leaf_goals_join, silent_and_stable_leaves,
+};
