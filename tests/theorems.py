@@ -85,6 +85,11 @@ PROMISES = (
         "a proof is valid, or this is its first part that fails; a checked net computes its predicate",
         "check, Checked::bound",
     ),
+    (
+        "a proof with goals is valid, or this is its first part that fails; then the net is stably right",
+        "check_stable, valid_is_stably_right",
+    ),
+    ("a value is the file of this bundle with goals, or this is the first broken rule", "read_stable_bundle"),
     ("a text is read to this predicate, or this is the first fault; the grammar gives it this meaning", "read_pred"),
     (
         "a predicate has this net, with a valid proof, or this is why it has none",
@@ -112,6 +117,8 @@ PROMISES = (
 LIBRARY_ALONE = {"run_all", "run_watched", "write_journal", "push_journal", "run_calm"}
 TOP_CRATES = ("tool_texts", "tool_commands", "pop_tool", "pop_main")
 BELOW_CHECK = (
+    ("pop_tool", "StableHeadline", "StableSays"),
+    ("net_goals", "StablyRight", "IsStablyRight"),
     ("pop_checker", "Sound", "IsRight"),
     ("pop_checker", "Changes", "ChangesAtMost"),
     ("pop_fair", "StablyComputes", "StablyComputes"),
@@ -119,6 +126,7 @@ BELOW_CHECK = (
     ("pop_random", "ComputesAlmostSurely", "SettlesInCubicTime"),
 )
 PROOFS = frozenset({"ValidProof", "IsProofFile", "IsProofWithin"})
+GOALS = frozenset({"ValidStableProof", "IsPartFile", "IsStableProofWithin"})
 BOUNDS = frozenset({"ComputesAlmostSurely", "ComputesInCubicTime", "ChangesAtMost"})
 
 
@@ -316,6 +324,8 @@ def document() -> str:
     answered = ("pop_tool", "Outcome", "IsAnswered")
     narrow = rests.beneath([*certified, answered], PROOFS | BOUNDS)
     wide = rests.beneath([*certified, answered], PROOFS)
+    lines = [("pop_tool", "StableHeadline", name) for name in ("StableSays", "IsStableLine", "IsValidStableLine")]
+    stable = rests.beneath(lines, GOALS) - wide
     out = [
         "# Theorems",
         "",
@@ -369,6 +379,17 @@ def document() -> str:
             wide - narrow,
             rests,
             PROOFS | frozenset(key[2] for key in narrow),
+        ),
+        *reading_list(
+            "To believe `stable`",
+            (
+                "What is printed for a bundle with goals, its file, and what it means that a net is stably right."
+                " Left out are what a\nvalid proof with goals is and how its part of the file is written"
+                " (`ValidStableProof`, `IsPartFile`,\n`IsStableProofWithin`), and what stands in the lists above."
+            ),
+            stable,
+            rests,
+            GOALS | frozenset(key[2] for key in wide),
         ),
         *reading_list(
             "To believe the whole answer",
