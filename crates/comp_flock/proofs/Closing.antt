@@ -1,26 +1,27 @@
 -- Both trees of a built leaf of a flock atom close.
 use Rattle.std.proofs.Common.{◌≡◌, ◌∙◌, subst, ℕ, zero, suc, ◌+◌, ◌<◌, ◌≤◌, Bool, true, false, ◌&&◌, List, [], ◌∷◌, ◌++◌, length, map, append_assoc, length-append, refl, ap, sym, zero-add, arith}
-use Rattle.std.specs.Prelude.{ℤ, pos, neg_ℤ, ◌-ℤ◌, if◌then◌else◌, ◌==◌, not, Some, nat_lt, filter, All}
-use Rattle.std.specs.List.{range_with_len, list_all}
+use Rattle.std.specs.Prelude.{ℤ, if◌then◌else◌, ◌==◌, not, Some, nat_lt, filter, All}
+use Rattle.std.specs.List.{range_with_len}
 use Rattle.std.proofs.lemmas.Bool.{lt-ltb, eq-eqb, ne_eqb}
 use Rattle.std.proofs.lemmas.List.{append-nil}
 use Rattle.std.proofs.lemmas.List.Elements.{All-head, All-tail, filter-append}
 use Rattle.std.proofs.lemmas.List.FromFn.{length-map-range_with_len, map-range_with_len_more}
-use Rattle.pop_net.specs.LeafModel.{LeafModel, IsLeaf}
+use Rattle.pop_net.specs.LeafModel.{LeafModel}
 use Rattle.pres_ast.specs.PredModel.{PredModel}
 use Rattle.cert_base.specs.declared.fact.Fact.{Fact}
 use Rattle.cert_base.specs.declared.fact.Fact.TheVariants.{Ge, Holds}
 use Rattle.cert_base.specs.declared.node.Node.{Node}
 use Rattle.cert_base.specs.declared.node.Node.TheVariants.{Present, Twin, Siphon, Open}
 use Rattle.cert_base.specs.Rows.{input_row}
-use Rattle.cert_base.specs.FactsAndCases.{states_of, flow, base_list, two_agents_fact, wrong_output_fact, absent_fact, occurs_fact, alone_fact, not_twice, can_meet_in, cases_of_open}
+use Rattle.cert_base.specs.FactsAndCases.{states_of, flow, base_list, two_agents_fact, wrong_output_fact, absent_fact, occurs_fact, alone_fact, not_twice, can_meet_in}
 use Rattle.cert_base.specs.Closes.{cases_of, ClosesUnder, refuted, by_cases, no_case, next_case, Closes}
 use Rattle.comp_trees.specs.LeaderTree.{weighed_node}
-use Rattle.comp_flock.specs.FlockLeaf.{says_enough, flock_leaf_with}
-use Rattle.comp_flock.specs.FlockProof.{few_mix, converted_mix, first_mix, start_mix, never_mix, enough_tree, too_few_tree, offset_pred_of}
+use Rattle.comp_flock.specs.FlockLeaf.{says_enough, enough_for, flock_leaf_with}
+use Rattle.comp_flock.specs.FlockProof.{full_size, few_mix as few_mix_with, converted_mix, first_mix, start_mix as start_mix_with, never_mix, enough_tree, too_few_tree, offset_pred_of}
 use Rattle.comp_flock.proofs.MoveLists.{doubles, converts}
 use Rattle.comp_flock.proofs.Formed.{states-long}
-use Rattle.comp_flock.proofs.Offsets.{opened_row, opened_constant, opened-is, IsFilled}
+use Rattle.comp_flock.proofs.Opened.{opened_row, opened_constant, opened-is}
+use Rattle.comp_flock.proofs.Offsets.{IsFilled}
 use Rattle.comp_flock.proofs.EnoughNodes.{few_facts, few_closes, converted_facts, converted_closes}
 use Rattle.comp_flock.proofs.TooFewNodes.{full, first_facts, first_closes, start_facts, start_closes, never_facts, never_long, never_closes}
 use Rattle.list_laws.proofs.Ranges.{all_range, range_one_more}
@@ -39,7 +40,13 @@ module _ (coefs : List ℤ) (bound : ℤ) (k : ℕ) (helpers : List ℕ) (most :
   says = says_enough bound
 
   abbrev leaf : LeafModel
-  leaf = flock_leaf_with coefs says k helpers
+  leaf = flock_leaf_with coefs says (enough_for bound) k helpers
+
+  abbrev few_mix : ℕ → List ℤ
+  few_mix = few_mix_with (full_size coefs k)
+
+  abbrev start_mix : ℕ → List ℤ
+  start_mix = start_mix_with (enough_for bound)
 
   abbrev pred : PredModel
   pred = offset_pred_of coefs bound
@@ -141,7 +148,7 @@ module _ (coefs : List ℤ) (bound : ℤ) (k : ℕ) (helpers : List ℕ) (most :
   present_is : cases_of leaf enough (Present (k + 1)) ≡ Some ((absent_fact leaf (k + 1) ∷ []) ∷ met ∷ [])
   present_is = rw in_states (ap (λ qs. Some ((absent_fact leaf (k + 1) ∷ []) ∷ (occurs_fact leaf (k + 1) ∷ map (absent_fact leaf) qs ++ extra) ∷ [])) company-all)
 
-  pub tree-enough : Closes leaf (base_list leaf pred says) (enough_tree k) []
+  pub tree-enough : Closes leaf (base_list leaf pred says) (enough_tree (full_size coefs k) k) []
   tree-enough =
       let last = weighed_node (converted_mix k) in
       let first : ClosesUnder leaf 2 (few_at 0) (map Twin (range_with_len 1 k) ++ weighed_node (few_mix k) ∷ last ∷ []) (last ∷ []) = close_few 0 k (last ∷ []) (zero-add k) in
@@ -176,7 +183,7 @@ module _ (coefs : List ℤ) (bound : ℤ) (k : ℕ) (helpers : List ℕ) (most :
   siphon_is : cases_of leaf lacking (Siphon (full k)) ≡ Some (firsts ∷ starts ∷ nevers ∷ [])
   siphon_is = rw in_states refl
 
-  pub tree-too-few : Closes leaf (base_list leaf pred (not says)) (too_few_tree k) []
+  pub tree-too-few : Closes leaf (base_list leaf pred (not says)) (too_few_tree (enough_for bound) k) []
   tree-too-few =
       let one = weighed_node (first_mix k) in
       let two = weighed_node (start_mix k) in

@@ -54,9 +54,9 @@ lower-conversion k (suc i) l =
     let low : IsLower (weights k) (conversion_move k (i + 1)) = omega (arith, ints, p, s) in
     subst (λ q. IsLower (weights k) (conversion_move k q)) (let e : i + 1 ≡ suc i = omega arith in e) low
 
-module _ (coefs : List ℤ) (says : Bool) (k : ℕ) (helpers : List ℕ) where
+module _ (coefs : List ℤ) (says : Bool) (c k : ℕ) (helpers : List ℕ) where
   abbrev leaf : LeafModel
-  leaf = flock_leaf_with coefs says k helpers
+  leaf = flock_leaf_with coefs says c k helpers
 
   are_kinds : AreKinds leaf (λ t. 0) (weights k ∷ [])
   are_kinds = record {

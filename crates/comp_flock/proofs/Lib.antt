@@ -3,10 +3,11 @@ pub mod MoveLists
 pub mod SingleMoves
 pub mod StateNames
 pub mod OwnFacts
+pub mod Opened
+pub mod Starts
 pub mod Offsets
 pub mod Formed
 pub mod PowerFound
-pub mod Mixes
 pub mod EnoughNodes
 pub mod TooFewNodes
 pub mod Small

@@ -1,5 +1,5 @@
 -- What is known of the power of a flock atom, with an offset or without.
-use Rattle.std.proofs.Common.{◌≡◌, ◌⊎◌, ◌∙◌, inl, inr, ℕ, zero, suc, ◌+◌, ◌^◌, ◌<◌, ◌≤◌, Bool, true, false, cond, List, length, refl, ap, sym, arith}
+use Rattle.std.proofs.Common.{◌≡◌, ◌⊎◌, ◌∙◌, inl, inr, ℕ, zero, suc, ◌+◌, ◌^◌, ◌<◌, ◌≤◌, Bool, true, false, cond, List, refl, ap, sym, arith}
 use Rattle.std.specs.Prelude.{ℤ, Some, None, find, nat_le, if◌then◌else◌}
 use Rattle.std.specs.List.{range_with_len, list_all}
 use Rattle.std.specs.Ordering.{int_eq}
@@ -8,7 +8,7 @@ use Rattle.std.proofs.lemmas.Bool.{leb-true, le-leb, cases_eq, cases_lt}
 use Rattle.std.proofs.lemmas.Option.{slice_get_within, get_or_from_slice_get}
 use Rattle.std.proofs.lemmas.List.FromFn.{length-range_with_len, get_or-range_with_len}
 use Rattle.pop_net.proofs.Found.{find_some}
-use Rattle.pop_io.specs.declared.names.TheConstants.{VARIABLE_LIMIT}
+use Rattle.pres_ast.specs.PredModel.{IsAtomSum}
 use Rattle.comp_flock.specs.declared.limits.TheConstants.{POWER_LIMIT}
 use Rattle.comp_flock.specs.OffsetLaw.{IsLeastPower}
 use Rattle.comp_flock.specs.FlockLeaf.{is_counted, is_flock_coefficient, flock_bound, power_of, says_enough, enough_for, offset_power, IsOffset}
@@ -43,17 +43,17 @@ power_is coefs bound k e = go (list_all is_flock_coefficient coefs) refl e
         }
 
 pub record IsOffsetPower (coefs : List ℤ) (bound : ℤ) (k : ℕ) : Type 0 where
-  pub are : list_all (is_counted (says_enough bound)) coefs ≡ true
+  pub are : list_all (is_counted (says_enough bound) (enough_for bound)) coefs ≡ true
   pub high : k ≤ POWER_LIMIT
   pub within : enough_for bound ≤ 2 ^ k
 
 pub offset_power_is : (coefs : List ℤ) (bound : ℤ) (k : ℕ) → offset_power coefs bound ≡ Some k → IsOffsetPower coefs bound k
-offset_power_is coefs bound k e = go (list_all (is_counted (says_enough bound)) coefs) refl e
+offset_power_is coefs bound k e = go (list_all (is_counted (says_enough bound) (enough_for bound)) coefs) refl e
   where
     none_some : None ≡ Some k → IsOffsetPower coefs bound k
     none_some h = cc
 
-    go : (c : Bool) → list_all (is_counted (says_enough bound)) coefs ≡ c → (if c then find (λ j. nat_le (enough_for bound) (2 ^ j)) (range_with_len 0 (POWER_LIMIT + 1)) else None) ≡ Some k → IsOffsetPower coefs bound k
+    go : (c : Bool) → list_all (is_counted (says_enough bound) (enough_for bound)) coefs ≡ c → (if c then find (λ j. nat_le (enough_for bound) (2 ^ j)) (range_with_len 0 (POWER_LIMIT + 1)) else None) ≡ Some k → IsOffsetPower coefs bound k
     go false f h = none_some h
     go true f h =
         let found = find_some (λ j. nat_le (enough_for bound) (2 ^ j)) (range_with_len 0 (POWER_LIMIT + 1)) k h in
@@ -66,9 +66,8 @@ offset_power_is coefs bound k e = go (list_all (is_counted (says_enough bound)) 
           within = leb-true (enough_for bound) (2 ^ k) found.2;
         }
 
-pub offset_found : (coefs : List ℤ) (bound : ℤ) (k : ℕ) → 1 ≤ length coefs → length coefs ≤ VARIABLE_LIMIT → offset_power coefs bound ≡ Some k → IsOffset coefs bound k
-offset_found coefs bound k some few e =
-    let is = offset_power_is coefs bound k e in record { some = some; few = few; are = is.are; high = is.high; within = is.within }
+pub offset_found : (coefs : List ℤ) (bound : ℤ) (k : ℕ) → IsAtomSum coefs → offset_power coefs bound ≡ Some k → IsOffset coefs bound k
+offset_found coefs bound k sum e = let is = offset_power_is coefs bound k e in record { sum = sum; are = is.are; high = is.high; within = is.within }
 
 -- ---- what is found is the first
 
@@ -97,7 +96,7 @@ find-any p a (suc n) i l m e = go (p a) refl (λ h. find-any p (a + 1) n i h (om
 pub offset_least : (coefs : List ℤ) (bound : ℤ) (k : ℕ) → offset_power coefs bound ≡ Some k → IsLeastPower (enough_for bound) k
 offset_least coefs bound k e = record {
   enough = (offset_power_is coefs bound k e).within;
-  least = λ j l. go (list_all (is_counted (says_enough bound)) coefs) e j l (cases_lt j k);
+  least = λ j l. go (list_all (is_counted (says_enough bound) (enough_for bound)) coefs) e j l (cases_lt j k);
 }
   where
     go : (c : Bool) → (if c then find (λ j. nat_le (enough_for bound) (2 ^ j)) (range_with_len 0 (POWER_LIMIT + 1)) else None) ≡ Some k → (j : ℕ) → enough_for bound ≤ 2 ^ j → (j < k) ⊎ (k ≤ j) → k ≤ j
@@ -107,7 +106,7 @@ offset_least coefs bound k e = record {
         let none = find-first (λ j. nat_le (enough_for bound) (2 ^ j)) 0 (POWER_LIMIT + 1) k h j (omega arith) m in
         absurd (let f : true ≡ false = sym (le-leb (enough_for bound) (2 ^ j) l) ∙ none in cc)
 
-pub offset_every : (coefs : List ℤ) (bound : ℤ) → list_all (is_counted (says_enough bound)) coefs ≡ true → enough_for bound ≤ 2 ^ POWER_LIMIT → (k : ℕ) × (offset_power coefs bound ≡ Some k)
+pub offset_every : (coefs : List ℤ) (bound : ℤ) → list_all (is_counted (says_enough bound) (enough_for bound)) coefs ≡ true → enough_for bound ≤ 2 ^ POWER_LIMIT → (k : ℕ) × (offset_power coefs bound ≡ Some k)
 offset_every coefs bound are l =
     let found = find-any (λ j. nat_le (enough_for bound) (2 ^ j)) 0 (POWER_LIMIT + 1) POWER_LIMIT (omega arith) (omega arith) (le-leb (enough_for bound) (2 ^ POWER_LIMIT) l) in
     (found.0, ap (λ (c : Bool). if c then find (λ j. nat_le (enough_for bound) (2 ^ j)) (range_with_len 0 (POWER_LIMIT + 1)) else None) are ∙ found.1)

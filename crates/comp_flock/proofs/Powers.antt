@@ -4,25 +4,16 @@ use Rattle.std.specs.Prelude.{pos, ◌-ℤ◌, ◌*ℤ◌, int_le}
 use Rattle.std.specs.List.{range_with_len}
 use Rattle.std.proofs.lemmas.Int.{ints}
 use Rattle.std.proofs.Math.Pow.{pow-lt}
-use Rattle.std.proofs.Math.Nat.{pow-le-pow_right, one-le-pow, two-pow-succ}
 use Rattle.std.proofs.lemmas.Bool.{cases_lt, ne_eqb}
+use Rattle.comp_powers_leaf.proofs.Bits.{double, some_power, power-le}
 use Rattle.cert_base.specs.WeightedSums.{total}
 use Rattle.cert_base.proofs.FlowSums.{times-one}
 use Rattle.comp_flock.specs.declared.limits.TheConstants.{POWER_LIMIT}
 use Rattle.comp_flock.specs.FlockLeaf.{size_in}
 use Rattle.cert_base.proofs.WeightedSums.{le-test}
 
-pub power-double : (i : ℕ) → 2 ^ (i + 1) ≡ 2 ^ i + 2 ^ i
-power-double i = ap (λ m. 2 ^ m) (let e : i + 1 ≡ suc i = omega arith in e) ∙ two-pow-succ i
-
-pub power-some : (i : ℕ) → 1 ≤ 2 ^ i
-power-some i = one-le-pow i 2 (omega arith)
-
-pub power-le : (i j : ℕ) → i ≤ j → 2 ^ i ≤ 2 ^ j
-power-le i j l = pow-le-pow_right (let some : 0 < 2 = omega arith in some) l
-
-pub power_small : (k : ℕ) → k ≤ POWER_LIMIT → 2 ^ k ≤ 549755813888
-power_small k l = power-le k 39 l
+pub power_small : (k : ℕ) → k ≤ POWER_LIMIT → 2 ^ k ≤ 2 ^ POWER_LIMIT
+power_small k l = power-le k POWER_LIMIT l
 
 -- the size of state i + 1
 pub size-power : (i : ℕ) → size_in (i + 1) ≡ 2 ^ i
@@ -39,12 +30,12 @@ pub size-at : (q i : ℕ) → q ≡ i + 1 → size_in q ≡ 2 ^ i
 size-at q i e = ap size_in e ∙ size-power i
 
 pub size-le : (k q : ℕ) → q ≤ k + 1 → size_in q ≤ 2 ^ k
-size-le k zero l = omega (arith, power-some k)
+size-le k zero l = omega (arith, some_power k)
 size-le k (suc i) l = let e = size-suc i in let m = power-le i k (omega arith) in omega (arith, e, m)
 
 pub size-apart : (p q : ℕ) → p < q → size_in p < size_in q
 size-apart p zero l = absurd (omega arith)
-size-apart zero (suc j) l = let e = size-suc j in let m = power-some j in omega (arith, e, m)
+size-apart zero (suc j) l = let e = size-suc j in let m = some_power j in omega (arith, e, m)
 size-apart (suc i) (suc j) l =
     let e = size-suc i in let f = size-suc j in let m = pow-lt (let k : i < j = omega arith in k) in omega (arith, e, f, m)
 
@@ -64,9 +55,9 @@ sizes-total a (suc n) =
     let rest = sizes-total (a + 1) n in
     let here = times-one (pos (size_in (a + 1))) in
     let size = size-power a in
-    let double = power-double a in
+    let twice = double a in
     let same : 2 ^ (a + suc n) ≡ 2 ^ (a + 1 + n) = ap (λ m. 2 ^ m) (let e : a + suc n ≡ a + 1 + n = omega arith in e) in
-    omega (arith, ints, rest, here, size, double, same)
+    omega (arith, ints, rest, here, size, twice, same)
 
 -- a number that is no less than 0
 pub zero_le : (n : ℕ) → int_le (pos 0) (pos n) ≡ true

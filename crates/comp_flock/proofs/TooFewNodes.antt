@@ -1,18 +1,18 @@
 -- The nodes of the tree where there are too few close.
 use Rattle.std.proofs.Common.{◌≡◌, ◌≢◌, ◌⊎◌, ◌∙◌, inl, inr, subst, ℕ, ◌+◌, ◌^◌, ◌<◌, ◌≤◌, Bool, true, false, ◌&&◌, ◌||◌, List, [], ◌∷◌, ◌++◌, length, map, get_or, refl, ap, sym, arith}
-use Rattle.std.specs.Prelude.{ℤ, pos, negsuc, neg_ℤ, ◌+ℤ◌, ◌-ℤ◌, ◌*ℤ◌, ◌≤ℤ◌, if◌then◌else◌, ◌==◌, not, All, int_le}
-use Rattle.std.specs.List.{range_with_len, list_all}
+use Rattle.std.specs.Prelude.{ℤ, pos, negsuc, neg_ℤ, ◌+ℤ◌, ◌-ℤ◌, ◌*ℤ◌, ◌≤ℤ◌, if◌then◌else◌, ◌==◌, not, All, nat_abs}
+use Rattle.std.specs.List.{range_with_len}
 use Rattle.std.specs.Ordering.{int_eq}
 use Rattle.std.proofs.lemmas.Int.{ints}
 use Rattle.std.proofs.Math.IntN.{*ℤ-zero, zero-*ℤ}
-use Rattle.std.proofs.lemmas.Bool.{cases_lt, cases_eq, eq-eqb, ne_eqb}
+use Rattle.std.proofs.lemmas.Bool.{cases_lt, eq-eqb, ne_eqb}
 use Rattle.std.proofs.lemmas.Bool.Decides.{eqb_tells}
 use Rattle.std.proofs.lemmas.List.{length-map, length-append, get_or-map, get_or_past, length-replicate}
 use Rattle.std.proofs.lemmas.List.Elements.{All-get_or, All-from_get_or}
 use Rattle.std.proofs.lemmas.List.FromFn.{length-range_with_len, length-map-range_with_len}
 use Rattle.std.proofs.Math.Bool.{and-false}
 use Rattle.pop_net.specs.declared.leaf.Move.{Move}
-use Rattle.pop_net.specs.LeafModel.{LeafModel, IsLeaf}
+use Rattle.pop_net.specs.LeafModel.{LeafModel}
 use Rattle.pres_ast.specs.PredModel.{PredModel}
 use Rattle.cert_base.specs.declared.fact.Fact.{Fact}
 use Rattle.cert_base.specs.declared.fact.Fact.TheVariants.{Ge, Eq}
@@ -24,14 +24,19 @@ use Rattle.cert_base.proofs.WeightedSums.{weighted_sum-append, weighted_sum-zero
 use Rattle.cert_base.proofs.FlowSums.{coefficient-dense, total-none, times-one, mul-neg, one-times}
 use Rattle.comp_trees.proofs.LeaderEnds.{is_wrong}
 use Rattle.comp_trees.proofs.TrapNodes.{range-constant, states-state, states-input, states-past, places-all}
-use Rattle.comp_flock.specs.FlockLeaf.{says_enough, size_in, flock_start, doubling_move, conversion_move, flock_moves, flock_leaf_with}
-use Rattle.comp_flock.specs.FlockProof.{flock_mix, lesser_size, first_mix, start_mix, never_mix, offset_pred_of}
-use Rattle.comp_flock.proofs.Powers.{power-double, size-power, size-at, zero_le}
+use Rattle.comp_flock.specs.FlockLeaf.{says_enough, enough_for, size_in, flock_start, doubling_move, conversion_move, flock_moves, flock_leaf_with}
+use Rattle.comp_flock.specs.FlockProof.{lesser_size, first_mix, start_mix, never_mix, offset_pred_of}
+use Rattle.comp_flock.proofs.Powers.{size-power, size-at, zero_le}
 use Rattle.comp_flock.proofs.MoveLists.{all_moves, all_doublings, all_conversions}
-use Rattle.comp_flock.proofs.Formed.{start-low, states-long}
-use Rattle.comp_flock.proofs.Mixes.{IsPlain, all_facts, IsLow, mix_closes}
-use Rattle.comp_flock.proofs.OwnFacts.{taken-before, taken-move, taken-past, places-none}
-use Rattle.comp_flock.proofs.Offsets.{opened_row, opened_constant, too-few-constant, too-few-row, output-at, wrong-too-few, total-where, count-none, IsFilled}
+use Rattle.comp_flock.proofs.Formed.{states-long}
+use Rattle.comp_trees.specs.LeaderTree.{mix_over}
+use Rattle.comp_trees.proofs.Mixes.{IsPlain, all_facts, IsLow, mix_closes}
+use Rattle.comp_trees.proofs.TakenMoves.{taken-before, taken-move, taken-past}
+use Rattle.comp_powers_leaf.proofs.Bits.{double}
+use Rattle.comp_flock.proofs.OwnFacts.{places-none}
+use Rattle.comp_flock.proofs.Opened.{opened_row, opened_constant, too-few-constant}
+use Rattle.comp_flock.proofs.Starts.{IsStart, start-at, too-few-row}
+use Rattle.comp_flock.proofs.Offsets.{output-at, wrong-too-few, total-where, count-none, IsFilled}
 use Rattle.comp_flock.proofs.EnoughNodes.{is_plain}
 
 -- ---- the set of 2^k
@@ -85,41 +90,21 @@ size-most k q = go (q == k + 1)
     go true = omega (arith, ints)
     go false = omega (arith, ints)
 
-start-held : (k : ℕ) (a : ℤ) → indicator (is_in (full k) (flock_start a)) ≤ℤ pos (size_in (flock_start a))
-start-held k a = go (int_eq a (pos 0))
-  where
-    most : (c : Bool) → indicator c ≤ℤ pos 1
-    most true = omega (arith, ints)
-    most false = omega (arith, ints)
-
-    go : (b : Bool) → indicator (is_in (full k) (if b then 0 else 1)) ≤ℤ pos (size_in (if b then 0 else 1))
-    go true = let e = ap indicator (in-no k 0 (λ e. omega arith)) in omega (arith, ints, e)
-    go false = most (is_in (full k) 1)
-
--- the multiplier of the opened fact where no agent starts as 2^k
-abbrev opening : ℕ → ℤ
-opening k = if k == 0 then pos 1 else pos 0
-
-opening-cases : (k : ℕ) → (k ≡ 0) × (opening k ≡ pos 1) ⊎ (1 ≤ k) × (opening k ≡ pos 0)
-opening-cases k = elim (cases_eq k 0) [
-  | inl e ↦ inl (e, (let h = eq-eqb k 0 e in rw h refl))
-  | inr ne ↦ inr (omega (arith, ne), (let h = ne_eqb k 0 ne in rw h refl))
-]
-
-opening-may : (k : ℕ) → (int_eq (opening k) (pos 0) || int_le (pos 0) (opening k)) ≡ true
-opening-may k = go (k == 0)
-  where
-    go : (b : Bool) → (int_eq (if b then pos 1 else pos 0) (pos 0) || int_le (pos 0) (if b then pos 1 else pos 0)) ≡ true
-    go true = refl
-    go false = refl
+or_yes : (c : Bool) → ((c || true) && true) ≡ true
+or_yes true = refl
+or_yes false = refl
 
 module _ (coefs : List ℤ) (bound : ℤ) (k : ℕ) (helpers : List ℕ) (is : IsFilled coefs bound k helpers) where
   -- the value that says that there are enough
   abbrev says : Bool
   says = says_enough bound
 
+  -- how many are enough
+  abbrev c : ℕ
+  c = enough_for bound
+
   abbrev leaf : LeafModel
-  leaf = flock_leaf_with coefs says k helpers
+  leaf = flock_leaf_with coefs says c k helpers
 
   abbrev pred : PredModel
   pred = offset_pred_of coefs bound
@@ -136,8 +121,8 @@ module _ (coefs : List ℤ) (bound : ℤ) (k : ℕ) (helpers : List ℕ) (is : I
   plain : IsPlain leaf row
   plain = is_plain coefs bound k helpers (not says) is
 
-  row-at : (i : ℕ) → i < n → get_or row i (pos 0) ≡ neg_ℤ (pos (size_in (flock_start (get_or coefs i (pos 0)))))
-  row-at i l = too-few-row says coefs i is.are (omega (arith, length-map coefs flock_start))
+  row-at : (i : ℕ) → i < n → get_or row i (pos 0) ≡ neg_ℤ (pos (nat_abs (get_or coefs i (pos 0))))
+  row-at i l = too-few-row says c coefs i is.are (omega (arith, length-map coefs (flock_start c k)))
 
   no_helped : total (λ (q : ℕ). pos 0) helpers ≡ pos 0
   no_helped = total-none (λ (q : ℕ). pos 0) helpers (λ q. refl)
@@ -146,8 +131,11 @@ module _ (coefs : List ℤ) (bound : ℤ) (k : ℕ) (helpers : List ℕ) (is : I
   long = states-long k
 
   -- the start of an input
-  start-at : (i : ℕ) → i < n → get_or leaf.inputs i 0 ≡ flock_start (get_or coefs i (pos 0))
-  start-at i l = get_or-map flock_start coefs i (pos 0) 0 (omega (arith, length-map coefs flock_start))
+  start-of : (i : ℕ) → i < n → get_or leaf.inputs i 0 ≡ flock_start c k (get_or coefs i (pos 0))
+  start-of i l = get_or-map (flock_start c k) coefs i (pos 0) 0 (omega (arith, length-map coefs (flock_start c k)))
+
+  start-cases : (i : ℕ) → i < n → IsStart c k (get_or coefs i (pos 0)) (flock_start c k (get_or coefs i (pos 0)))
+  start-cases i l = start-at says c k coefs i is.are is.within (omega (arith, length-map coefs (flock_start c k)))
 
   -- ---- the first 2^k
 
@@ -180,7 +168,7 @@ module _ (coefs : List ℤ) (bound : ℤ) (k : ℕ) (helpers : List ℕ) (is : I
           let b = size-other k (i + 2) (λ e. omega arith) in
           let c = size-other k 0 (λ e. omega arith) in
           let counts = ap (λ j. full_size *ℤ indicator j) none ∙ *ℤ-zero full_size in
-          let e = power-double i in
+          let e = double i in
           let f = size-power i in
           let g = size-at (i + 2) (i + 1) (omega arith) in
           omega (arith, ints, a, b, c, counts, e, f, g)
@@ -191,7 +179,7 @@ module _ (coefs : List ℤ) (bound : ℤ) (k : ℕ) (helpers : List ℕ) (is : I
           let b : below (i + 2) ≡ pos 0 = ap below (let e : i + 2 ≡ k + 1 = omega arith in e) ∙ size-full k in
           let c = size-other k 0 (λ e. omega arith) in
           let counts = ap (λ j. full_size *ℤ indicator j) one ∙ times-yes full_size in
-          let e = power-double i in
+          let e = double i in
           let f = ap (λ m. 2 ^ m) last in
           let g = size-power i in
           omega (arith, ints, a, b, c, counts, e, f, g)
@@ -204,12 +192,17 @@ module _ (coefs : List ℤ) (bound : ℤ) (k : ℕ) (helpers : List ℕ) (is : I
           let counts = ap (λ j. full_size *ℤ indicator j) none ∙ *ℤ-zero full_size in
           omega (arith, ints, a, b, counts)
 
+  -- an agent counts for no less than its state
+  below-start : (a : ℤ) (q : ℕ) → IsStart c k a q → below q ≤ℤ pos (nat_abs a)
+  below-start a q (inl h) = let e = ap below h.0 ∙ size-full k in omega (arith, ints, e)
+  below-start a q (inr h) = let most = size-most k q in let own = h.1 in omega (arith, ints, most, own)
+
   first_low : IsLow leaf pred (not says) row constant first_facts below (pos 0) (pos 1) (full_size ∷ [])
   first_low = record {
     at_inputs = λ i l. (
         let a = get_or coefs i (pos 0) in
-        let first = ap below (start-at i l) in
-        let most = size-most k (flock_start a) in
+        let first = ap below (start-of i l) in
+        let most = below-start a (flock_start c k a) (start-cases i l) in
         let none = first_none i (taken-before leaf (joins k) i (omega arith)) in
         let one = one-times (get_or row i (pos 0)) in
         let counts = row-at i l in
@@ -236,17 +229,13 @@ module _ (coefs : List ℤ) (bound : ℤ) (k : ℕ) (helpers : List ℕ) (is : I
 
   first_may : may_weigh may_add first_facts (full_size ∷ []) ≡ true
   first_may = ap (λ (c : Bool). (int_eq full_size (pos 0) || c) && true) (zero_le (2 ^ k)) ∙ or_yes (int_eq full_size (pos 0))
-    where
-      or_yes : (c : Bool) → ((c || true) && true) ≡ true
-      or_yes true = refl
-      or_yes false = refl
 
   pub first_closes : closes_by_sum (all_facts leaf pred (not says) row constant first_facts) (terms_from 0 (first_mix k)) ≡ true
   first_closes =
-      subst (λ m. closes_by_sum (all_facts leaf pred (not says) row constant first_facts) (terms_from 0 (flock_mix (map below (range_with_len 0 m)) (pos 0) (pos 1) (full_size ∷ []))) ≡ true) long
+      subst (λ m. closes_by_sum (all_facts leaf pred (not says) row constant first_facts) (terms_from 0 (mix_over (map below (range_with_len 0 m)) (pos 0) (pos 1) (full_size ∷ []))) ≡ true) long
       (mix_closes leaf pred (not says) row constant first_facts below (pos 0) (pos 1) (full_size ∷ []) plain refl refl first_may first_low)
 
-  -- ---- no agent starts as 2^k
+  -- ---- an agent that starts as 2^k is enough
 
   abbrev starts : ℕ → ℤ
   starts start = indicator (is_in (full k) start)
@@ -257,81 +246,58 @@ module _ (coefs : List ℤ) (bound : ℤ) (k : ℕ) (helpers : List ℕ) (is : I
   abbrev pub start_facts : List Fact
   start_facts = Ge (input_row (map starts leaf.inputs) start_constant) ∷ []
 
-  -- nor does a helper
+  -- no helper does
   no_helper : helpers_among leaf (full k) ≡ 0
   no_helper =
       count-none (is_in (full k)) helpers
       (All-from_get_or (λ q. is_in (full k) q ≡ false) helpers 0 (λ i l. in-no k (get_or helpers i 0) (λ e. let low = All-get_or (λ q. q ≤ k) helpers i 0 l is.low in omega arith)))
 
-  start_sum : (x : ℕ) → sum_of_facts (coefficient x) start_facts (pos 1 ∷ []) ≡ get_or (map starts leaf.inputs) x (pos 0)
-  start_sum x = let row = coefficient-dense (map starts leaf.inputs) x in omega (arith, ints, row)
+  abbrev enough : ℤ
+  enough = pos c
 
-  start_past : (x : ℕ) → n ≤ x → sum_of_facts (coefficient x) start_facts (pos 1 ∷ []) ≡ pos 0
-  start_past x l = start_sum x ∙ get_or_past (map starts leaf.inputs) x (pos 0) (omega (arith, length-map leaf.inputs starts))
+  start_sum : (x : ℕ) → sum_of_facts (coefficient x) start_facts (enough ∷ []) ≡ (enough *ℤ get_or (map starts leaf.inputs) x (pos 0))
+  start_sum x = let row = ap (λ a. enough *ℤ a) (coefficient-dense (map starts leaf.inputs) x) in omega (arith, ints, row)
 
-  start_at : (i : ℕ) → i < n → sum_of_facts (coefficient i) start_facts (pos 1 ∷ []) ≡ indicator (is_in (full k) (flock_start (get_or coefs i (pos 0))))
-  start_at i l = start_sum i ∙ get_or-map starts leaf.inputs i 0 (pos 0) l ∙ ap starts (start-at i l)
+  start_past : (x : ℕ) → n ≤ x → sum_of_facts (coefficient x) start_facts (enough ∷ []) ≡ pos 0
+  start_past x l = start_sum x ∙ ap (λ a. enough *ℤ a) (get_or_past (map starts leaf.inputs) x (pos 0) (omega (arith, length-map leaf.inputs starts))) ∙ *ℤ-zero enough
 
-  start_input : (i : ℕ) → i < n → ((pos 0 +ℤ (opening k *ℤ get_or row i (pos 0))) +ℤ sum_of_facts (coefficient i) start_facts (pos 1 ∷ [])) ≤ℤ pos 0
-  start_input i l = go (opening-cases k)
-    where
-      go : (k ≡ 0) × (opening k ≡ pos 1) ⊎ (1 ≤ k) × (opening k ≡ pos 0) → ((pos 0 +ℤ (opening k *ℤ get_or row i (pos 0))) +ℤ sum_of_facts (coefficient i) start_facts (pos 1 ∷ [])) ≤ℤ pos 0
-      go (inl h) =
-          let sum = start_at i l in
-          let once = ap (λ a. a *ℤ get_or row i (pos 0)) h.1 ∙ one-times (get_or row i (pos 0)) in
-          let counts = row-at i l in
-          let held = start-held k (get_or coefs i (pos 0)) in
-          omega (arith, ints, sum, once, counts, held)
-      go (inr h) =
-          let low = start-low (get_or coefs i (pos 0)) in
-          let some = h.0 in
-          let sum = start_at i l ∙ ap indicator (in-no k (flock_start (get_or coefs i (pos 0))) (λ e. omega (arith, e, low, some))) in
-          let none = ap (λ a. a *ℤ get_or row i (pos 0)) h.1 ∙ zero-*ℤ (get_or row i (pos 0)) in
-          omega (arith, ints, sum, none)
+  start_counts : (a : ℤ) (q : ℕ) → IsStart c k a q → (enough *ℤ starts q) ≤ℤ pos (nat_abs a)
+  start_counts a q (inl h) = let e = ap (λ q. enough *ℤ starts q) h.0 ∙ ap (λ b. enough *ℤ indicator b) (in-yes k) ∙ times-one enough in let most = h.1 in omega (arith, ints, e, most)
+  start_counts a q (inr h) = let low = h.0 in let e = ap (λ b. enough *ℤ indicator b) (in-no k q (λ e. omega (arith, e, low))) ∙ *ℤ-zero enough in omega (arith, ints, e)
 
-  start_end : (((total (λ (q : ℕ). pos 0) helpers -ℤ pos 0) +ℤ (opening k *ℤ constant)) +ℤ sum_of_facts constant_of start_facts (pos 1 ∷ [])) ≤ℤ negsuc 0
-  start_end = go (opening-cases k)
-    where
-      start_sum_is : sum_of_facts constant_of start_facts (pos 1 ∷ []) ≡ negsuc 0
-      start_sum_is =
-          let none = ap {B = ℤ} (λ m. pos m -ℤ pos 1) no_helper in
-          let sum = one-times start_constant in
-          omega (arith, ints, none, sum)
+  start_may : may_weigh may_add start_facts (enough ∷ []) ≡ true
+  start_may = ap (λ (b : Bool). (int_eq enough (pos 0) || b) && true) (zero_le c) ∙ or_yes (int_eq enough (pos 0))
 
-      go : (k ≡ 0) × (opening k ≡ pos 1) ⊎ (1 ≤ k) × (opening k ≡ pos 0) → (((total (λ (q : ℕ). pos 0) helpers -ℤ pos 0) +ℤ (opening k *ℤ constant)) +ℤ sum_of_facts constant_of start_facts (pos 1 ∷ [])) ≤ℤ negsuc 0
-      go (inl h) =
-          let sum = start_sum_is in
-          let helped = no_helped in
-          let once = ap (λ a. a *ℤ constant) h.1 ∙ one-times constant in
-          let least = too-few-constant bound in
-          let within = is.within in
-          let unit : 2 ^ k ≡ 1 = ap (λ m. 2 ^ m) h.0 in
-          omega (arith, ints, sum, helped, once, least, within, unit)
-      go (inr h) =
-          let sum = start_sum_is in
-          let helped = no_helped in
-          let once = ap (λ a. a *ℤ constant) h.1 ∙ zero-*ℤ constant in
-          omega (arith, ints, sum, helped, once)
-
-  start_low : IsLow leaf pred (not says) row constant start_facts (λ q. pos 0) (pos 0) (opening k) (pos 1 ∷ [])
+  start_low : IsLow leaf pred (not says) row constant start_facts (λ q. pos 0) (pos 0) (pos 1) (enough ∷ [])
   start_low = record {
-    at_inputs = start_input;
+    at_inputs = λ i l. (
+        let a = get_or coefs i (pos 0) in
+        let sum = start_sum i ∙ ap (λ a. enough *ℤ a) (get_or-map starts leaf.inputs i 0 (pos 0) l ∙ ap starts (start-of i l)) in
+        let counts = start_counts a (flock_start c k a) (start-cases i l) in
+        let one = one-times (get_or row i (pos 0)) in
+        let own = row-at i l in
+        omega (arith, ints, sum, counts, one, own));
     at_states = λ z l. (let none = start_past (n + z) (omega arith) in let right = zero-*ℤ (indicator (is_wrong leaf (not says) z)) in omega (arith, ints, none, right));
     at_moves = λ t d l. (let none = start_past (n + length leaf.states + t) (omega arith) in omega (arith, ints, none));
     at_past = λ j. (let none = start_past (n + length leaf.states + (length leaf.moves + j)) (omega arith) in omega (arith, ints, none));
-    at_end = start_end;
+    at_end = (
+        let sum = ap {B = ℤ} (λ m. enough *ℤ (pos m -ℤ pos 1)) no_helper ∙ mul-neg enough (pos 1) ∙ ap neg_ℤ (times-one enough) in
+        let helped = no_helped in
+        let one = one-times constant in
+        let least = too-few-constant bound in
+        omega (arith, ints, sum, helped, one, least));
   }
 
   -- the states' flows aren't added
-  no_flows : (wrong add : ℤ) (own : List ℤ) → flock_mix (map (λ (q : ℕ). pos 0) (states_of leaf)) wrong add own ≡ flock_mix (zeros (k + 2)) wrong add own
+  no_flows : (wrong add : ℤ) (own : List ℤ) → mix_over (map (λ (q : ℕ). pos 0) (states_of leaf)) wrong add own ≡ mix_over (zeros (k + 2)) wrong add own
   no_flows wrong add own =
-      ap (λ m. flock_mix (map (λ (q : ℕ). pos 0) (range_with_len 0 m)) wrong add own) long
-      ∙ ap (λ zs. flock_mix zs wrong add own) (range-constant (pos 0) 0 (k + 2))
+      ap (λ m. mix_over (map (λ (q : ℕ). pos 0) (range_with_len 0 m)) wrong add own) long
+      ∙ ap (λ zs. mix_over zs wrong add own) (range-constant (pos 0) 0 (k + 2))
 
-  pub start_closes : closes_by_sum (all_facts leaf pred (not says) row constant start_facts) (terms_from 0 (start_mix k)) ≡ true
+  pub start_closes : closes_by_sum (all_facts leaf pred (not says) row constant start_facts) (terms_from 0 (start_mix c k)) ≡ true
   start_closes =
-      subst (λ ms. closes_by_sum (all_facts leaf pred (not says) row constant start_facts) (terms_from 0 ms) ≡ true) (no_flows (pos 0) (opening k) (pos 1 ∷ []))
-      (mix_closes leaf pred (not says) row constant start_facts (λ q. pos 0) (pos 0) (opening k) (pos 1 ∷ []) plain refl (opening-may k) refl start_low)
+      subst (λ ms. closes_by_sum (all_facts leaf pred (not says) row constant start_facts) (terms_from 0 ms) ≡ true) (no_flows (pos 0) (pos 1) (enough ∷ []))
+      (mix_closes leaf pred (not says) row constant start_facts (λ q. pos 0) (pos 0) (pos 1) (enough ∷ []) plain refl refl start_may start_low)
 
   -- ---- 2^k never occurred
 
@@ -378,7 +344,7 @@ module _ (coefs : List ℤ) (bound : ℤ) (k : ℕ) (helpers : List ℕ) (is : I
 
   -- a wrong output is that of 2^k
   wrong-at : (z : ℕ) → z < k + 2 → indicator (is_wrong leaf (not says) z) ≡ held z
-  wrong-at z l = ap indicator (ap (differs (not says)) (output-at coefs says k helpers z l) ∙ wrong-too-few says k z) ∙ same (eqb_tells z (k + 1))
+  wrong-at z l = ap indicator (ap (differs (not says)) (output-at coefs says c k helpers z l) ∙ wrong-too-few says k z) ∙ same (eqb_tells z (k + 1))
     where
       same : ((z == k + 1) ≡ true) × (z ≡ k + 1) ⊎ ((z == k + 1) ≡ false) × (z ≢ k + 1) → indicator (z == k + 1) ≡ held z
       same (inl h) = ap indicator h.0 ∙ sym (ap held h.1 ∙ ap indicator (in-yes k))

@@ -9,10 +9,11 @@ use Rattle.cert_base.specs.declared.layer.Layer.{Layer}
 use Rattle.cert_base.specs.declared.node.Node.TheVariants.{Present, Twin, Siphon, Open}
 use Rattle.cert_base.specs.Rows.{zeros}
 use Rattle.cert_base.specs.ProofLimits.{IsSmall, IsSetWithin, IsNodeWithin, AreNodesWithin, IsLayerWithin}
-use Rattle.comp_trees.specs.LeaderTree.{weighed_node}
+use Rattle.comp_trees.specs.LeaderTree.{weighed_node, mix_over}
 use Rattle.comp_trees.proofs.Limits.{weighed-within, all-zeros, one}
+use Rattle.comp_flock.specs.declared.limits.TheConstants.{POWER_LIMIT}
 use Rattle.comp_flock.specs.FlockLeaf.{size_in}
-use Rattle.comp_flock.specs.FlockProof.{flock_weight, flock_layers_of, flock_mix, lesser_size, few_mix, converted_mix, first_mix, start_mix, never_mix, enough_tree, too_few_tree, flock_tree}
+use Rattle.comp_flock.specs.FlockProof.{flock_weight, flock_layers_of, lesser_size, greatest_size, few_mix, converted_mix, first_mix, start_mix, never_mix, enough_tree, too_few_tree, flock_tree}
 use Rattle.comp_flock.proofs.Powers.{size-le, power_small}
 use Rattle.list_laws.proofs.Ranges.{all_range}
 use Rattle.list_laws.proofs.Numbers.{size-neg}
@@ -25,23 +26,23 @@ weight-small k q = go (q == 0) (q == k + 1)
     go false true = omega arith
     go false false = omega arith
 
-below-small : (k q n : ℕ) → n ≤ 549755813888 → IsSmall (if q == k + 1 then pos 0 else pos n)
+below-small : (k q n : ℕ) → n ≤ 2 ^ POWER_LIMIT → IsSmall (if q == k + 1 then pos 0 else pos n)
 below-small k q n l = go (q == k + 1)
   where
     go : (b : Bool) → IsSmall (if b then pos 0 else pos n)
     go true = omega arith
     go false = omega arith
 
-mix-long : (flows : List ℤ) (wrong opened : ℤ) (own : List ℤ) → length (flock_mix flows wrong opened own) ≡ length flows + length own + 4
+mix-long : (flows : List ℤ) (wrong opened : ℤ) (own : List ℤ) → length (mix_over flows wrong opened own) ≡ length flows + length own + 4
 mix-long flows wrong opened own =
     let base = flows ++ pos 0 ∷ pos 0 ∷ wrong ∷ [] in
     omega (arith, length-append (base ++ opened ∷ []) own, length-append base (opened ∷ []), length-append flows (pos 0 ∷ pos 0 ∷ wrong ∷ []))
 
-pub few-short : (k : ℕ) → k ≤ 39 → length (few_mix k) ≤ 200
-few-short k l =
-    let minus : ℕ → ℤ = λ q. neg_ℤ (pos (size_in q)) in
-    let size : ℕ → ℤ = λ q. pos (size_in q) in
-    omega (arith, mix-long (map minus (range_with_len 0 (k + 2))) (pos 0) (pos 1) (neg_ℤ (pos (2 ^ k)) ∷ map size (range_with_len 1 k)), length-map-range_with_len minus 0 (k + 2), length-map-range_with_len size 1 k)
+pub few-short : (full k : ℕ) → k ≤ 39 → length (few_mix full k) ≤ 200
+few-short full k l =
+    let minus : ℕ → ℤ = λ q. neg_ℤ (pos (greatest_size full k q)) in
+    let size : ℕ → ℤ = λ q. pos (greatest_size full k q) in
+    omega (arith, mix-long (map minus (range_with_len 0 (k + 2))) (pos 0) (pos 1) (neg_ℤ (pos full) ∷ map size (range_with_len 1 k)), length-map-range_with_len minus 0 (k + 2), length-map-range_with_len size 1 k)
 
 pub first-short : (k : ℕ) → k ≤ 39 → length (first_mix k) ≤ 200
 first-short k l =
@@ -51,26 +52,26 @@ pub converted-short : (k : ℕ) → k ≤ 39 → length (converted_mix k) ≤ 20
 converted-short k l =
     omega (arith, mix-long (zeros (k + 2)) (pos 1) (pos 0) (pos 0 ∷ replicate (k + 1) (negsuc 0)), length-replicate (k + 2) (pos 0), length-replicate (k + 1) (negsuc 0))
 
-pub start-short : (k : ℕ) → k ≤ 39 → length (start_mix k) ≤ 200
-start-short k l = omega (arith, mix-long (zeros (k + 2)) (pos 0) (if k == 0 then pos 1 else pos 0) (pos 1 ∷ []), length-replicate (k + 2) (pos 0))
+pub start-short : (c k : ℕ) → k ≤ 39 → length (start_mix c k) ≤ 200
+start-short c k l = omega (arith, mix-long (zeros (k + 2)) (pos 0) (pos 1) (pos c ∷ []), length-replicate (k + 2) (pos 0))
 
 pub never-short : (k : ℕ) → k ≤ 39 → length (never_mix k) ≤ 200
 never-short k l =
     omega (arith, mix-long (zeros (k + 2)) (pos 1) (pos 0) (zeros (k + 1) ++ negsuc 0 ∷ []), length-replicate (k + 2) (pos 0), length-append (zeros (k + 1)) (negsuc 0 ∷ []), length-replicate (k + 1) (pos 0))
 
 -- a node of few multipliers
-mix-within : (flows : List ℤ) (wrong opened : ℤ) (own : List ℤ) (n m : ℕ) → length flows ≤ n → length own ≤ m → n + m ≤ 200 → All IsSmall flows → IsSmall wrong → IsSmall opened → All IsSmall own → IsNodeWithin (weighed_node (flock_mix flows wrong opened own))
+mix-within : (flows : List ℤ) (wrong opened : ℤ) (own : List ℤ) (n m : ℕ) → length flows ≤ n → length own ≤ m → n + m ≤ 200 → All IsSmall flows → IsSmall wrong → IsSmall opened → All IsSmall own → IsNodeWithin (weighed_node (mix_over flows wrong opened own))
 mix-within flows wrong opened own n m ln lm few fs w o os =
     let base = flows ++ pos 0 ∷ pos 0 ∷ wrong ∷ [] in
     let all_base = All-append IsSmall flows (pos 0 ∷ pos 0 ∷ wrong ∷ []) fs (All-cons IsSmall (pos 0) (pos 0 ∷ wrong ∷ []) (omega arith) (All-cons IsSmall (pos 0) (wrong ∷ []) (omega arith) (one wrong w))) in
     let all = All-append IsSmall (base ++ opened ∷ []) own (All-append IsSmall base (opened ∷ []) all_base (one opened o)) os in
-    weighed-within (flock_mix flows wrong opened own) (omega (arith, mix-long flows wrong opened own, ln, lm, few)) all
+    weighed-within (mix_over flows wrong opened own) (omega (arith, mix-long flows wrong opened own, ln, lm, few)) all
 
 module _ (k : ℕ) (high : k ≤ 39) where
-  top-small : 2 ^ k ≤ 549755813888
+  top-small : 2 ^ k ≤ 2 ^ POWER_LIMIT
   top-small = power_small k high
 
-  size-small : (q : ℕ) → q < k + 2 → size_in q ≤ 549755813888
+  size-small : (q : ℕ) → q < k + 2 → size_in q ≤ 2 ^ POWER_LIMIT
   size-small q l = let a = size-le k q (omega arith) in let b = top-small in omega (arith, a, b)
 
   pub layers-within : All IsLayerWithin (flock_layers_of k)
@@ -86,19 +87,26 @@ module _ (k : ℕ) (high : k ≤ 39) where
       })
       (All-nil IsLayerWithin)
 
-  nothing : (wrong add : ℤ) (own : List ℤ) → IsSmall wrong → IsSmall add → length own ≤ k + 2 → All IsSmall own → IsNodeWithin (weighed_node (flock_mix (zeros (k + 2)) wrong add own))
+  nothing : (wrong add : ℤ) (own : List ℤ) → IsSmall wrong → IsSmall add → length own ≤ k + 2 → All IsSmall own → IsNodeWithin (weighed_node (mix_over (zeros (k + 2)) wrong add own))
   nothing wrong add own w a l os = mix-within (zeros (k + 2)) wrong add own (k + 2) (k + 2) (omega (arith, length-replicate (k + 2) (pos 0))) l (omega arith) (all-zeros (k + 2)) w a os
 
-  few-within : IsNodeWithin (weighed_node (few_mix k))
-  few-within =
-      let size : ℕ → ℤ = λ q. pos (size_in q) in
-      let minus : ℕ → ℤ = λ q. neg_ℤ (pos (size_in q)) in
-      mix-within (map minus (range_with_len 0 (k + 2))) (pos 0) (pos 1) (neg_ℤ (pos (2 ^ k)) ∷ map size (range_with_len 1 k)) (k + 2) (k + 2)
+  greatest-small : (full q : ℕ) → full ≤ 2 ^ POWER_LIMIT → q < k + 2 → greatest_size full k q ≤ 2 ^ POWER_LIMIT
+  greatest-small full q most l = go (q == k + 1)
+    where
+      go : (b : Bool) → (if b then full else size_in q) ≤ 2 ^ POWER_LIMIT
+      go true = most
+      go false = size-small q l
+
+  few-within : (full : ℕ) → full ≤ 2 ^ POWER_LIMIT → IsNodeWithin (weighed_node (few_mix full k))
+  few-within full most =
+      let size : ℕ → ℤ = λ q. pos (greatest_size full k q) in
+      let minus : ℕ → ℤ = λ q. neg_ℤ (pos (greatest_size full k q)) in
+      mix-within (map minus (range_with_len 0 (k + 2))) (pos 0) (pos 1) (neg_ℤ (pos full) ∷ map size (range_with_len 1 k)) (k + 2) (k + 2)
       (omega (arith, length-map-range_with_len minus 0 (k + 2))) (omega (arith, length-map-range_with_len size 1 k)) (omega arith)
-      (All-map IsSmall minus (range_with_len 0 (k + 2)) (all_range (λ q. IsSmall (minus q)) 0 (k + 2) (λ q l m. let a = size-small q (omega arith) in let b = size-neg (size_in q) in omega (arith, a, b))))
+      (All-map IsSmall minus (range_with_len 0 (k + 2)) (all_range (λ q. IsSmall (minus q)) 0 (k + 2) (λ q l m. let a = greatest-small full q most (omega arith) in let b = size-neg (greatest_size full k q) in omega (arith, a, b))))
       (omega arith) (omega arith)
-      (All-cons IsSmall (neg_ℤ (pos (2 ^ k))) (map size (range_with_len 1 k)) (let a = top-small in let b = size-neg (2 ^ k) in omega (arith, a, b))
-      (All-map IsSmall size (range_with_len 1 k) (all_range (λ q. IsSmall (size q)) 1 k (λ q l m. let a = size-small q (omega arith) in omega (arith, a)))))
+      (All-cons IsSmall (neg_ℤ (pos full)) (map size (range_with_len 1 k)) (let b = size-neg full in omega (arith, most, b))
+      (All-map IsSmall size (range_with_len 1 k) (all_range (λ q. IsSmall (size q)) 1 k (λ q l m. let a = greatest-small full q most (omega arith) in omega (arith, a)))))
 
   first-within : IsNodeWithin (weighed_node (first_mix k))
   first-within =
@@ -112,12 +120,8 @@ module _ (k : ℕ) (high : k ≤ 39) where
       nothing (pos 1) (pos 0) (pos 0 ∷ replicate (k + 1) (negsuc 0)) (omega arith) (omega arith) (omega (arith, length-replicate (k + 1) (negsuc 0)))
       (All-cons IsSmall (pos 0) (replicate (k + 1) (negsuc 0)) (omega arith) (All-replicate IsSmall (k + 1) (negsuc 0) (omega arith)))
 
-  start-within : IsNodeWithin (weighed_node (start_mix k))
-  start-within = nothing (pos 0) (if k == 0 then pos 1 else pos 0) (pos 1 ∷ []) (omega arith) (once (k == 0)) (omega arith) (one (pos 1) (omega arith))
-    where
-      once : (b : Bool) → IsSmall (if b then pos 1 else pos 0)
-      once true = omega arith
-      once false = omega arith
+  start-within : (c : ℕ) → c ≤ 2 ^ POWER_LIMIT → IsNodeWithin (weighed_node (start_mix c k))
+  start-within c most = nothing (pos 0) (pos 1) (pos c ∷ []) (omega arith) (omega arith) (omega arith) (one (pos c) (omega (arith, most)))
 
   never-within : IsNodeWithin (weighed_node (never_mix k))
   never-within =
@@ -127,34 +131,34 @@ module _ (k : ℕ) (high : k ≤ 39) where
   twins-within : All IsNodeWithin (map Twin (range_with_len 1 k))
   twins-within = All-map IsNodeWithin Twin (range_with_len 1 k) (all_range (λ q. q < 2 ^ 16) 1 k (λ q l m. omega arith))
 
-  enough-within : AreNodesWithin (enough_tree k)
-  enough-within =
+  enough-within : (full : ℕ) → full ≤ 2 ^ POWER_LIMIT → AreNodesWithin (enough_tree full k)
+  enough-within full most =
       let front = Open (k + 2 + 1) ∷ Present (k + 1) ∷ map Twin (range_with_len 1 k) in
-      let back = weighed_node (few_mix k) ∷ weighed_node (converted_mix k) ∷ [] in (
+      let back = weighed_node (few_mix full k) ∷ weighed_node (converted_mix k) ∷ [] in (
         (omega (arith, length-append front back, length-map-range_with_len Twin 1 k)),
         All-append IsNodeWithin front back
             (All-cons IsNodeWithin (Open (k + 2 + 1)) (Present (k + 1) ∷ map Twin (range_with_len 1 k)) (omega arith)
             (All-cons IsNodeWithin (Present (k + 1)) (map Twin (range_with_len 1 k)) (omega arith) twins-within))
-            (All-cons IsNodeWithin (weighed_node (few_mix k)) (weighed_node (converted_mix k) ∷ []) few-within
+            (All-cons IsNodeWithin (weighed_node (few_mix full k)) (weighed_node (converted_mix k) ∷ []) (few-within full most)
             (All-cons IsNodeWithin (weighed_node (converted_mix k)) [] converted-within (All-nil IsNodeWithin))),
       )
 
   full-within : IsSetWithin ((k + 1) ∷ [])
   full-within = (omega arith, All-cons (λ q. q < 2 ^ 16) (k + 1) [] (omega arith) (All-nil (λ q. q < 2 ^ 16)), tt)
 
-  too-few-within : AreNodesWithin (too_few_tree k)
-  too-few-within =
+  too-few-within : (c : ℕ) → c ≤ 2 ^ POWER_LIMIT → AreNodesWithin (too_few_tree c k)
+  too-few-within c most =
       let three = weighed_node (never_mix k) ∷ [] in
-      let two = weighed_node (start_mix k) ∷ three in
+      let two = weighed_node (start_mix c k) ∷ three in
       let one = weighed_node (first_mix k) ∷ two in (
         omega arith,
         All-cons IsNodeWithin (Open (k + 2 + 1)) (Siphon ((k + 1) ∷ []) ∷ one) (omega arith)
             (All-cons IsNodeWithin (Siphon ((k + 1) ∷ [])) one full-within
             (All-cons IsNodeWithin (weighed_node (first_mix k)) two first-within
-            (All-cons IsNodeWithin (weighed_node (start_mix k)) three start-within
+            (All-cons IsNodeWithin (weighed_node (start_mix c k)) three (start-within c most)
             (All-cons IsNodeWithin (weighed_node (never_mix k)) [] never-within (All-nil IsNodeWithin))))),
       )
 
-  pub tree-within : (enough : Bool) → AreNodesWithin (flock_tree enough k)
-  tree-within true = enough-within
-  tree-within false = too-few-within
+  pub tree-within : (full c : ℕ) → full ≤ 2 ^ POWER_LIMIT → c ≤ 2 ^ POWER_LIMIT → (enough : Bool) → AreNodesWithin (flock_tree enough full c k)
+  tree-within full c a b true = enough-within full a
+  tree-within full c a b false = too-few-within c b

@@ -1,8 +1,8 @@
 -- FlockProof: the layer, the trees and the whole proof for a built leaf of a flock atom, with an offset or without. The
 -- state 2^k is state k + 1.
 use Rattle.std.specs.Prelude.{ℕ, ◌+◌, ◌^◌, ◌==◌, if◌then◌else◌, Bool, true, false, not, List, [], ◌∷◌, ◌++◌, map}
-use Rattle.std.specs.Prelude.{length, replicate, ℤ, pos, negsuc, neg_ℤ}
-use Rattle.std.specs.List.{range_with_len}
+use Rattle.std.specs.Prelude.{length, replicate, ℤ, pos, negsuc, neg_ℤ, nat_abs, nat_le}
+use Rattle.std.specs.List.{range_with_len, list_all}
 use Rattle.pres_ast.specs.PredTree.{LessThan}
 use Rattle.pres_ast.specs.PredModel.{PredModel}
 use Rattle.cert_base.specs.declared.layer.Layer.{Layer}
@@ -10,8 +10,9 @@ use Rattle.cert_base.specs.declared.node.Node.{Node}
 use Rattle.cert_base.specs.declared.node.Node.TheVariants.{Present, Twin, Siphon, Open}
 use Rattle.cert_base.specs.declared.proof.LeafProof.{LeafProof}
 use Rattle.cert_base.specs.Rows.{zeros}
-use Rattle.comp_trees.specs.LeaderTree.{weighed_node}
-use Rattle.comp_flock.specs.FlockLeaf.{flock_bound, says_enough, size_in, flock_state_count}
+use Rattle.comp_trees.specs.LeaderTree.{weighed_node, mix_over}
+use Rattle.comp_flock.specs.FlockLeaf.{flock_bound, says_enough, enough_for, size_in, flock_state_count}
+use Rattle.comp_flock.specs.declared.limits.TheConstants.{POWER_LIMIT}
 
 -- ---- the layer
 
@@ -28,53 +29,56 @@ flock_layers_of k =
 
 -- ---- the nodes
 
--- the multipliers of the base facts, of the opened predicate, and of the facts after it
-abbrev pub flock_mix : List ℤ → ℤ → ℤ → List ℤ → List ℤ
-flock_mix flows wrong opened own = ((flows ++ pos 0 ∷ pos 0 ∷ wrong ∷ []) ++ opened ∷ []) ++ own
-
 abbrev pub for_states : ℕ → (ℕ → ℤ) → List ℤ
 for_states k value = map value (range_with_len 0 (flock_state_count k))
 
 abbrev pub lesser_size : ℕ → ℕ → ℤ
 lesser_size k q = if q == k + 1 then pos 0 else pos (size_in q)
 
+-- what an agent in 2^k counts for at most: 2^k, or more than any coefficient
+abbrev pub full_size : List ℤ → ℕ → ℕ
+full_size coefs k = if list_all (λ a. nat_le (nat_abs a) (2 ^ k)) coefs then 2 ^ k else 2 ^ POWER_LIMIT
+
+abbrev pub greatest_size : ℕ → ℕ → ℕ → ℕ
+greatest_size full k q = if q == k + 1 then full else size_in q
+
 -- without 2^k, and with each smaller power at most once, the sizes add up to at most 2^k - 1
-abbrev pub few_mix : ℕ → List ℤ
-few_mix k =
-    flock_mix (for_states k (λ q. neg_ℤ (pos (size_in q)))) (pos 0) (pos 1)
-    (neg_ℤ (pos (2 ^ k)) ∷ map (λ q. pos (size_in q)) (range_with_len 1 k))
+abbrev pub few_mix : ℕ → ℕ → List ℤ
+few_mix full k =
+    mix_over (for_states k (λ q. neg_ℤ (pos (greatest_size full k q)))) (pos 0) (pos 1)
+    (neg_ℤ (pos full) ∷ map (λ q. pos (greatest_size full k q)) (range_with_len 1 k))
 
 -- at the end there is no state but 2^k
 abbrev pub converted_mix : ℕ → List ℤ
-converted_mix k = flock_mix (zeros (flock_state_count k)) (pos 1) (pos 0) (pos 0 ∷ replicate (k + 1) (negsuc 0))
+converted_mix k = mix_over (zeros (flock_state_count k)) (pos 1) (pos 0) (pos 0 ∷ replicate (k + 1) (negsuc 0))
 
 -- the first 2^k takes 2^k agents
 abbrev pub first_mix : ℕ → List ℤ
-first_mix k = flock_mix (for_states k (lesser_size k)) (pos 0) (pos 1) (pos (2 ^ k) ∷ [])
+first_mix k = mix_over (for_states k (lesser_size k)) (pos 0) (pos 1) (pos (2 ^ k) ∷ [])
 
--- no agent starts as 2^k; or 2^k is 1, and an agent that counts is enough
-abbrev pub start_mix : ℕ → List ℤ
-start_mix k = flock_mix (zeros (flock_state_count k)) (pos 0) (if k == 0 then pos 1 else pos 0) (pos 1 ∷ [])
+-- an agent that starts as 2^k is enough
+abbrev pub start_mix : ℕ → ℕ → List ℤ
+start_mix c k = mix_over (zeros (flock_state_count k)) (pos 0) (pos 1) (pos c ∷ [])
 
 -- 2^k never occurred, so no output is true
 abbrev pub never_mix : ℕ → List ℤ
-never_mix k = flock_mix (zeros (flock_state_count k)) (pos 1) (pos 0) (zeros (k + 1) ++ negsuc 0 ∷ [])
+never_mix k = mix_over (zeros (flock_state_count k)) (pos 1) (pos 0) (zeros (k + 1) ++ negsuc 0 ∷ [])
 
 -- ---- the trees: where there are enough, 2^k is absent at the end, or present; where there aren't, 2^k was put in
 -- while absent, or was present at the start, or never occurred
-abbrev pub enough_tree : ℕ → List Node
-enough_tree k =
+abbrev pub enough_tree : ℕ → ℕ → List Node
+enough_tree full k =
     (Open (flock_state_count k + 1) ∷ Present (k + 1) ∷ map Twin (range_with_len 1 k))
-    ++ weighed_node (few_mix k) ∷ weighed_node (converted_mix k) ∷ []
+    ++ weighed_node (few_mix full k) ∷ weighed_node (converted_mix k) ∷ []
 
-abbrev pub too_few_tree : ℕ → List Node
-too_few_tree k =
-    Open (flock_state_count k + 1) ∷ Siphon ((k + 1) ∷ []) ∷ weighed_node (first_mix k) ∷ weighed_node (start_mix k)
+abbrev pub too_few_tree : ℕ → ℕ → List Node
+too_few_tree c k =
+    Open (flock_state_count k + 1) ∷ Siphon ((k + 1) ∷ []) ∷ weighed_node (first_mix k) ∷ weighed_node (start_mix c k)
     ∷ weighed_node (never_mix k) ∷ []
 
-abbrev pub flock_tree : Bool → ℕ → List Node
-flock_tree true k = enough_tree k
-flock_tree false k = too_few_tree k
+abbrev pub flock_tree : Bool → ℕ → ℕ → ℕ → List Node
+flock_tree true full c k = enough_tree full k
+flock_tree false full c k = too_few_tree c k
 
 -- ---- the whole proof of the leaf
 
@@ -96,8 +100,8 @@ offset_part coefs bound k =
     record {
       pred = offset_pred_of coefs bound;
       layers = flock_layers_of k;
-      on_true = flock_tree (says_enough bound) k;
-      on_false = flock_tree (not (says_enough bound)) k;
+      on_true = flock_tree (says_enough bound) (full_size coefs k) (enough_for bound) k;
+      on_false = flock_tree (not (says_enough bound)) (full_size coefs k) (enough_for bound) k;
     }
 
 abbrev pub flock_part : List ℤ → ℕ → LeafProof

@@ -37,5 +37,5 @@ PowerLaw =
 -- one is found for each c up to the limit
 abbrev pub EveryLaw : Type 0
 EveryLaw =
-    (coefs : List ℤ) (bound : ℤ) → list_all (is_counted (says_enough bound)) coefs ≡ true
+    (coefs : List ℤ) (bound : ℤ) → list_all (is_counted (says_enough bound) (enough_for bound)) coefs ≡ true
     → enough_for bound ≤ 2 ^ POWER_LIMIT → (k : ℕ) × (offset_power coefs bound ≡ Some k)

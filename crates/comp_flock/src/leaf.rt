@@ -4,12 +4,15 @@ ghost use Rattle.std.specs.Prelude.{◌≡◌, ◌≤◌, map, IfOk};
 ghost use Rattle.std.specs.List.{range_with_len};
 ghost use Rattle.comp_trees.specs.DefinedLeaf.{IsDefined};
 ghost use Rattle.comp_flock.specs.declared.limits.TheConstants.{POWER_LIMIT};
-ghost use Rattle.comp_flock.specs.FlockLeaf.{flock_start, flock_state_count, flock_output};
+ghost use Rattle.comp_flock.specs.FlockLeaf.{flock_start, place_of as place, flock_state_count, flock_output};
+ghost use Rattle.comp_powers_leaf.specs.PowersLeaf.{power_in};
 ghost use Rattle.comp_flock.specs.FlockLeaf.{offset_leaf_of, IsOffset, HasSpareRoom};
 
+use crate::limits::POWER_LIMIT as GREATEST_POWER;
 use crate::listing::moves;
 use crate::naming::names;
 use crate::offset::{enough_for, helpers, missing, says_enough};
+use comp_powers_leaf::power_of;
 use pop_io::{List, NoMemory};
 use pop_net::Leaf;
 use std::alloc::Global;
@@ -33,19 +36,35 @@ fn outputs(alloc: Global, says: bool, power: u16) -> Result<Vec<bool>, NoMemory>
     Ok(outputs)
 }
 
-/// The state of an agent of a variable at the start.
-fn start_of(coef: i64) -> u16
-    ensures { result ≡ flock_start coef }
+/// The state that stands for this number.
+fn place_of(size: u64) -> u16
+    ensures { result ≡ place (power_in POWER_LIMIT size) }
 {
-    if coef == 0 { 0 } else { 1 }
+    match power_of(GREATEST_POWER, size) {
+        Some(i) => i + 1,
+        None => 0,
+    }
 }
 
-fn inputs(alloc: Global, coefs: &[i64]) -> Result<Vec<u16>, NoMemory>
-    ensures { IfOk result (λ inputs. inputs.items ≡ map flock_start coefs.now) }
+/// The state of an agent of a variable at the start.
+fn start_of(enough: u64, power: u16, coef: i64) -> u16
+    requires { power ≤ POWER_LIMIT }
+    ensures { result ≡ flock_start enough power coef }
+{
+    if enough <= coef.unsigned_abs() {
+        power + 1
+    } else {
+        place_of(coef.unsigned_abs())
+    }
+}
+
+fn inputs(alloc: Global, enough: u64, power: u16, coefs: &[i64]) -> Result<Vec<u16>, NoMemory>
+    requires { power ≤ POWER_LIMIT }
+    ensures { IfOk result (λ inputs. inputs.items ≡ map (flock_start enough power) coefs.now) }
 {
     let mut inputs = Vec::new(alloc);
     for coef in coefs {
-        inputs.push(start_of(*coef))?;
+        inputs.push(start_of(enough, power, *coef))?;
     }
     Ok(inputs)
 }
@@ -64,9 +83,10 @@ pub(crate) fn flock_leaf(
 {
     let names = names(alloc, power)?;
     let moves = List::from_vec(moves(alloc, power)?);
-    let inputs = List::from_vec(inputs(alloc, coefs)?);
+    let enough = enough_for(bound);
+    let inputs = List::from_vec(inputs(alloc, enough, power, coefs)?);
     let outputs = List::from_vec(outputs(alloc, says_enough(bound), power)?);
-    let missing = missing(enough_for(bound), power);
+    let missing = missing(enough, power);
     let helpers = List::from_vec(helpers(alloc, missing, power, spare)?);
     Leaf::of_valid(alloc, names, moves, inputs, outputs, helpers)
 }

@@ -1,32 +1,16 @@
 //! The multipliers of the nodes.
 
-ghost use Rattle.std.specs.Prelude.{◌≡◌, ◌≤◌, ◌+◌, ◌==◌, if◌then◌else◌, map, pos, neg_ℤ, IfOk};
+ghost use Rattle.std.specs.Prelude.{◌≡◌, ◌≤◌, ◌≤ℤ◌, ◌+◌, ◌^◌, map, pos, neg_ℤ, IfOk};
 ghost use Rattle.std.specs.List.{range_with_len};
 ghost use Rattle.comp_flock.specs.declared.limits.TheConstants.{POWER_LIMIT};
 ghost use Rattle.comp_flock.specs.FlockLeaf.{size_in, flock_state_count};
-ghost use Rattle.comp_flock.specs.FlockProof.{flock_mix, lesser_size, few_mix, converted_mix, first_mix, start_mix};
+ghost use Rattle.comp_flock.specs.FlockProof.{lesser_size, greatest_size, few_mix, converted_mix, first_mix, start_mix};
 ghost use Rattle.comp_flock.specs.FlockProof.{never_mix};
 
 use crate::naming::size_of;
+use comp_trees::mix;
 use pop_io::NoMemory;
 use std::alloc::Global;
-
-/// Those of the base facts, of the opened predicate, and of the node's own facts.
-fn mix(
-    alloc: Global,
-    flows: &[i64],
-    wrong: i64,
-    opened: i64,
-    own: &[i64],
-) -> Result<Vec<i64>, NoMemory>
-    ensures { IfOk result (λ multipliers. multipliers.items ≡ flock_mix flows.now wrong opened own.now) }
-{
-    let mut multipliers = Vec::from_slice(alloc, flows)?;
-    multipliers.extend_from_slice(&[0, 0, wrong])?;
-    multipliers.extend_from_slice(&[opened])?;
-    multipliers.extend_from_slice(own)?;
-    Ok(multipliers)
-}
 
 fn size(q: u16) -> i64
     requires { q ≤ POWER_LIMIT + 1 }
@@ -35,11 +19,24 @@ fn size(q: u16) -> i64
     size_of(q) as i64
 }
 
-fn lost(q: u16) -> i64
-    requires { q ≤ POWER_LIMIT + 1 }
-    ensures { result ≡ neg_ℤ (pos (size_in q)) }
+/// The greatest size of a state, which is `full` for 2^k.
+fn greatest(full: u64, power: u16, q: u16) -> i64
+    requires full { full ≤ 2 ^ POWER_LIMIT }
+    requires power { power ≤ POWER_LIMIT }
+    requires state { q ≤ POWER_LIMIT + 1 }
+    ensures value { result ≡ pos (greatest_size full power q) }
+    ensures some { pos 0 ≤ℤ result }
 {
-    -size(q)
+    if q == power + 1 { full as i64 } else { size(q) }
+}
+
+fn lost(full: u64, power: u16, q: u16) -> i64
+    requires full { full ≤ 2 ^ POWER_LIMIT }
+    requires power { power ≤ POWER_LIMIT }
+    requires state { q ≤ POWER_LIMIT + 1 }
+    ensures { result ≡ neg_ℤ (pos (greatest_size full power q)) }
+{
+    -greatest(full, power, q)
 }
 
 /// The size of a state, but 0 for 2^k itself.
@@ -51,12 +48,13 @@ fn size_below(power: u16, q: u16) -> i64
     if q == power + 1 { 0 } else { size(q) }
 }
 
-fn all_lost(alloc: Global, power: u16) -> Result<Vec<i64>, NoMemory>
-    requires { power ≤ POWER_LIMIT }
+fn all_lost(alloc: Global, full: u64, power: u16) -> Result<Vec<i64>, NoMemory>
+    requires full { full ≤ 2 ^ POWER_LIMIT }
+    requires power { power ≤ POWER_LIMIT }
     ensures { IfOk result (λ all.
-        all.items ≡ map (λ q. neg_ℤ (pos (size_in q))) (range_with_len 0 (flock_state_count power))) }
+        all.items ≡ map (λ q. neg_ℤ (pos (greatest_size full power q))) (range_with_len 0 (flock_state_count power))) }
 {
-    let all = (0..power + 2).map(|q| lost(q)).collect(alloc)?;
+    let all = (0..power + 2).map(|q| lost(full, power, q)).collect(alloc)?;
     Ok(all)
 }
 
@@ -69,23 +67,27 @@ fn all_below(alloc: Global, power: u16) -> Result<Vec<i64>, NoMemory>
 }
 
 /// The sizes of the powers below 2^k.
-fn sizes(alloc: Global, power: u16) -> Result<Vec<i64>, NoMemory>
-    requires { power ≤ POWER_LIMIT }
-    ensures { IfOk result (λ all. all.items ≡ map (λ q. pos (size_in q)) (range_with_len 1 power)) }
+fn sizes(alloc: Global, full: u64, power: u16) -> Result<Vec<i64>, NoMemory>
+    requires full { full ≤ 2 ^ POWER_LIMIT }
+    requires power { power ≤ POWER_LIMIT }
+    ensures { IfOk result (λ all. all.items ≡ map (λ q. pos (greatest_size full power q)) (range_with_len 1 power)) }
 {
-    let all = (1..power + 1).map(|q| size(q)).collect(alloc)?;
+    let all = (1..power + 1)
+        .map(|q| greatest(full, power, q))
+        .collect(alloc)?;
     Ok(all)
 }
 
 /// 2^k is absent, and each smaller power is present at most once.
-pub(crate) fn few(alloc: Global, power: u16) -> Result<Vec<i64>, NoMemory>
-    requires { power ≤ POWER_LIMIT }
-    ensures { IfOk result (λ multipliers. multipliers.items ≡ few_mix power) }
+pub(crate) fn few(alloc: Global, full: u64, power: u16) -> Result<Vec<i64>, NoMemory>
+    requires full { full ≤ 2 ^ POWER_LIMIT }
+    requires power { power ≤ POWER_LIMIT }
+    ensures { IfOk result (λ multipliers. multipliers.items ≡ few_mix full power) }
 {
-    let mut own = Vec::from_slice(alloc, &[lost(power + 1)])?;
-    let sizes = sizes(alloc, power)?;
+    let mut own = Vec::from_slice(alloc, &[-(full as i64)])?;
+    let sizes = sizes(alloc, full, power)?;
     own.extend_from_slice(sizes.as_slice())?;
-    let flows = all_lost(alloc, power)?;
+    let flows = all_lost(alloc, full, power)?;
     mix(alloc, flows.as_slice(), 0, 1, own.as_slice())
 }
 
@@ -110,20 +112,14 @@ pub(crate) fn first(alloc: Global, power: u16) -> Result<Vec<i64>, NoMemory>
     mix(alloc, flows.as_slice(), 0, 1, &[size(power + 1)])
 }
 
-/// How often the opened fact counts where an agent started as 2^k.
-fn opened_at_start(power: u16) -> i64
-    ensures { result ≡ (if power == 0 then pos 1 else pos 0) }
-{
-    if power == 0 { 1 } else { 0 }
-}
-
-/// An agent started as 2^k.
-pub(crate) fn start(alloc: Global, power: u16) -> Result<Vec<i64>, NoMemory>
-    requires { power ≤ POWER_LIMIT }
-    ensures { IfOk result (λ multipliers. multipliers.items ≡ start_mix power) }
+/// An agent started as 2^k, so it is enough.
+pub(crate) fn start(alloc: Global, enough: u64, power: u16) -> Result<Vec<i64>, NoMemory>
+    requires enough { enough ≤ 2 ^ POWER_LIMIT }
+    requires power { power ≤ POWER_LIMIT }
+    ensures { IfOk result (λ multipliers. multipliers.items ≡ start_mix enough power) }
 {
     let flows = vec![in alloc; 0i64; usize::from(power + 2)]?;
-    mix(alloc, flows.as_slice(), 0, opened_at_start(power), &[1])
+    mix(alloc, flows.as_slice(), 0, 1, &[enough as i64])
 }
 
 /// 2^k never occurred.

@@ -2,10 +2,11 @@
 
 ghost use Rattle.std.specs.Prelude.{◌≡◌, ◌≤◌, ◌+◌, ◌^◌, map, IfOk};
 ghost use Rattle.std.specs.List.{range_with_len};
+ghost use Rattle.comp_powers_leaf.specs.declared.limits.TheConstants.{RANGE_LIMIT};
 ghost use Rattle.comp_flock.specs.declared.limits.TheConstants.{POWER_LIMIT};
 ghost use Rattle.comp_flock.specs.FlockLeaf.{flock_state_count, size_in, flock_state_name};
 
-use crate::power::two_to;
+use comp_powers_leaf::two_to;
 use pop_io::{List, NoMemory, Text};
 use std::alloc::Global;
 
@@ -13,7 +14,7 @@ use std::alloc::Global;
 pub(crate) fn size_of(q: u16) -> u64
     requires { q ≤ POWER_LIMIT + 1 }
     ensures value { result ≡ size_in q }
-    ensures small { result ≤ 2 ^ POWER_LIMIT }
+    ensures small { result ≤ 2 ^ (RANGE_LIMIT + 1) }
 {
     if q == 0 { 0 } else { two_to(u32::from(q - 1)) }
 }

@@ -6,15 +6,16 @@ ghost use Rattle.comp_flock.specs.declared.limits.TheConstants.{POWER_LIMIT};
 ghost use Rattle.comp_flock.specs.FlockLeaf.{says_enough as says_of, enough_for as enough_of, bit_states};
 ghost use Rattle.comp_flock.specs.FlockLeaf.{offset_helper_count as count_of};
 
-use crate::power::two_to;
+use comp_powers_leaf::{is_set, two_to};
 use pop_io::NoMemory;
 use std::alloc::Global;
 
 /// Whether an atom with this bound says that there are enough; else it denies it.
+#[tactic(auto, using(crate::proofs::Opened::none_or_less))]
 pub(crate) fn says_enough(bound: i64) -> bool
     ensures { result ≡ says_of bound }
 {
-    if bound > 0 { false } else { true }
+    bound <= 0
 }
 
 /// How many are enough.
@@ -37,13 +38,12 @@ pub(crate) fn missing(enough: u64, power: u16) -> u64
 }
 
 /// Whether bit i is set, for the state 2^i, which is state i + 1.
-fn is_set(n: u64, q: u16) -> bool
+fn has(n: u64, q: u16) -> bool
     requires first { 1 ≤ q }
     requires last { q ≤ POWER_LIMIT }
     ensures { result ≡ has_bit n (q - 1) }
 {
-    let range = two_to(u32::from(q));
-    two_to(u32::from(q - 1)) <= n % range
+    is_set(n, u32::from(q - 1))
 }
 
 /// The states 2^i for which bit i is set.
@@ -51,7 +51,7 @@ fn set_states(alloc: Global, n: u64, power: u16) -> Result<Vec<u16>, NoMemory>
     requires { power ≤ POWER_LIMIT }
     ensures { IfOk result (λ states. states.items ≡ bit_states n power) }
 {
-    let states = (1..power + 1).filter(|q| is_set(n, *q)).collect(alloc)?;
+    let states = (1..power + 1).filter(|q| has(n, *q)).collect(alloc)?;
     Ok(states)
 }
 
@@ -81,7 +81,7 @@ fn count_set(n: u64, power: u16) -> u32
 {
     let mut count = 0;
     for q in 1..power + 1 {
-        count += one_if(is_set(n, q));
+        count += one_if(has(n, q));
     }
     count
 }

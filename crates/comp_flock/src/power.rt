@@ -1,24 +1,16 @@
 //! Which atoms are flock atoms.
 
-ghost use Rattle.std.specs.Prelude.{◌≡◌, ◌≤◌, ◌+◌, ◌^◌, find, pos, negsuc, nat_le, if◌then◌else◌, IfSome};
+ghost use Rattle.std.specs.Prelude.{◌≡◌, ◌≤◌, ◌+◌, ◌^◌, find, nat_le, IfSome};
 ghost use Rattle.std.specs.List.{range_with_len, list_all};
 ghost use Rattle.std.specs.Ordering.{int_eq};
 ghost use Rattle.comp_flock.specs.declared.limits.TheConstants.{POWER_LIMIT as GREATEST_POWER};
-ghost use Rattle.comp_flock.specs.FlockLeaf.{is_counted as is_counted_by, flock_bound, power_of};
+ghost use Rattle.comp_flock.specs.FlockLeaf.{is_flock_coefficient as is_flock, has_sign as has_sign_of, is_size as is_size_of};
+ghost use Rattle.comp_flock.specs.FlockLeaf.{is_counted as is_counted_by, flock_bound, power_of as power_of_flock};
 ghost use Rattle.comp_flock.specs.FlockLeaf.{power_of_counted, offset_power as offset_power_of};
 
 use crate::limits::POWER_LIMIT;
 use crate::offset::{enough_for, says_enough};
-
-/// 2^k.
-#[tactic(auto, using(crate::proofs::Powers::power_small))]
-pub(crate) fn two_to(k: u32) -> u64
-    requires { k ≤ GREATEST_POWER }
-    ensures value { result ≡ 2 ^ k }
-    ensures small { result ≤ 2 ^ GREATEST_POWER }
-{
-    1 << k
-}
+use comp_powers_leaf::{power_of, two_to};
 
 /// The bound of the flock atom with this power.
 pub(crate) fn bound_of_power(k: u32) -> i64
@@ -28,23 +20,43 @@ pub(crate) fn bound_of_power(k: u32) -> i64
     1 - two_to(k) as i64
 }
 
-/// What an agent adds to the sum, where the atom says that there are enough, or denies it.
-fn step(says: bool) -> i64
-    ensures { result ≡ (if says then negsuc 0 else pos 1) }
+fn is_flock_coefficient(coef: i64) -> bool
+    ensures { result ≡ is_flock coef }
 {
-    if says { -1 } else { 1 }
+    coef == 0 || coef == -1
 }
 
-fn is_counted(says: bool, coef: i64) -> bool
-    ensures { result ≡ is_counted_by says coef }
+/// Whether an agent adds nothing, or something of the sign that the atom counts.
+fn has_sign(says: bool, coef: i64) -> bool
+    ensures { result ≡ has_sign_of says coef }
 {
-    coef == 0 || coef == step(says)
+    if says { coef <= 0 } else { 0 <= coef }
 }
 
-fn are_counted(says: bool, coefs: &[i64]) -> bool
-    ensures { result ≡ list_all (is_counted_by says) coefs.now }
+/// Whether a state stands for this number, or it is enough.
+fn is_size(enough: u64, size: u64) -> bool
+    ensures { result ≡ is_size_of enough size }
 {
-    coefs.iter().all(|coef| is_counted(says, *coef))
+    enough <= size || power_of(POWER_LIMIT, size).is_some() || size == 0
+}
+
+#[tactic(auto, unfolding(crate::specs::FlockLeaf::is_counted))]
+fn is_counted(says: bool, enough: u64, coef: i64) -> bool
+    ensures { result ≡ is_counted_by says enough coef }
+{
+    has_sign(says, coef) && is_size(enough, coef.unsigned_abs())
+}
+
+fn are_counted(says: bool, enough: u64, coefs: &[i64]) -> bool
+    ensures { result ≡ list_all (is_counted_by says enough) coefs.now }
+{
+    coefs.iter().all(|coef| is_counted(says, enough, *coef))
+}
+
+fn are_flock(coefs: &[i64]) -> bool
+    ensures { result ≡ list_all is_flock coefs.now }
+{
+    coefs.iter().all(|coef| is_flock_coefficient(*coef))
 }
 
 /// The power with this bound.
@@ -57,9 +69,9 @@ fn power_by(bound: i64) -> Option<u32>
 /// The power k if the atom `Less` with these numbers says that a sum of variables is at least 2^k: each coefficient is
 /// 0 or -1, and the bound is 1 - 2^k. Allocates nothing.
 pub fn flock_power(coefs: &[i64], bound: i64) -> Option<u32>
-    ensures { result ≡ power_of coefs.now bound }
+    ensures { result ≡ power_of_flock coefs.now bound }
 {
-    if are_counted(true, coefs) {
+    if are_flock(coefs) {
         power_by(bound)
     } else {
         None
@@ -82,20 +94,20 @@ fn least_power(enough: u64) -> Option<u32>
     (0..POWER_LIMIT + 1).find(|k| is_within(enough, *k))
 }
 
-/// The same, if the coefficients are those of agents that are counted.
+/// The same, if all agents are counted.
 fn power_if(says: bool, enough: u64, coefs: &[i64]) -> Option<u32>
     ensures least { result ≡ power_of_counted says enough coefs.now }
     ensures low { IfSome result (λ k. k ≤ GREATEST_POWER) }
 {
-    if are_counted(says, coefs) {
+    if are_counted(says, enough, coefs) {
         least_power(enough)
     } else {
         None
     }
 }
 
-/// The least power k with c at most 2^k, if the atom `Less` with these numbers says that a sum of variables is at least
-/// c, or denies it: `-x < 1 - c`, or `x < c`. Allocates nothing.
+/// The least power k with c at most 2^k, if the atom `Less` with these numbers says that a sum is at least c, or denies
+/// it: `-x < 1 - c`, or `x < c`. Each coefficient is 0, a power of two or at least c. Allocates nothing.
 pub fn offset_power(coefs: &[i64], bound: i64) -> Option<u32>
     ensures least { result ≡ offset_power_of coefs.now bound }
     ensures low { IfSome result (λ k. k ≤ GREATEST_POWER) }

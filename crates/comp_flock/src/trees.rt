@@ -1,14 +1,17 @@
 //! Both trees of a leaf.
 
-ghost use Rattle.std.specs.Prelude.{◌≡◌, ◌≤◌, ◌+◌, ◌++◌, ◌∷◌, [], length, map, not, IfOk, OnOk};
-ghost use Rattle.std.specs.List.{range_with_len};
+ghost use Rattle.std.specs.Prelude.{◌≡◌, ◌≤◌, ◌+◌, ◌^◌, ◌++◌, ◌∷◌, [], length, map, nat_abs, nat_le, IfOk, OnOk};
+ghost use Rattle.std.specs.List.{range_with_len, list_all};
 ghost use Rattle.cert_base.specs.declared.node.Node.TheVariants.{Siphon, Twin as twin_node};
 ghost use Rattle.comp_trees.specs.LeaderTree.{weighed_node};
 ghost use Rattle.comp_flock.specs.declared.limits.TheConstants.{POWER_LIMIT};
 ghost use Rattle.comp_flock.specs.FlockProof.{enough_tree as tree_of_enough, too_few_tree as tree_of_few, flock_tree};
+ghost use Rattle.comp_flock.specs.FlockProof.{full_size as full_size_of};
 
+use crate::limits::POWER_LIMIT as GREATEST_POWER;
 use crate::multipliers::{converted, few, first, never, start};
 use cert_base::Node;
+use comp_powers_leaf::two_to;
 use comp_trees::{MULTIPLIER_LIMIT, weighed};
 use pop_io::{List, NoMemory};
 use std::alloc::Global;
@@ -51,55 +54,78 @@ fn node(alloc: Global, multipliers: Vec<i64>) -> Result<Node, NoMemory>
 }
 
 /// Where there are enough: 2^k is absent at the end, or it is present.
-fn enough_tree(alloc: Global, power: u16) -> Result<List<Node>, NoMemory>
-    requires { power ≤ POWER_LIMIT }
-    ensures { IfOk result (λ nodes. nodes ≡ tree_of_enough power) }
+fn enough_tree(alloc: Global, full: u64, power: u16) -> Result<List<Node>, NoMemory>
+    requires full { full ≤ 2 ^ POWER_LIMIT }
+    requires power { power ≤ POWER_LIMIT }
+    ensures { IfOk result (λ nodes. nodes ≡ tree_of_enough full power) }
 {
     let mut nodes = Vec::new(alloc);
     nodes.push(Node::Open(opened(power)))?;
     nodes.push(Node::Present(power + 1))?;
     push_twins(&mut nodes, power)?;
-    nodes.push(node(alloc, few(alloc, power)?)?)?;
+    nodes.push(node(alloc, few(alloc, full, power)?)?)?;
     nodes.push(node(alloc, converted(alloc, power)?)?)?;
     Ok(List::from_vec(nodes))
 }
 
 /// Where there aren't: 2^k was put together, or was present at the start, or never occurred.
-fn too_few_tree(alloc: Global, power: u16) -> Result<List<Node>, NoMemory>
-    requires { power ≤ POWER_LIMIT }
-    ensures { IfOk result (λ nodes. nodes ≡ tree_of_few power) }
+fn too_few_tree(alloc: Global, enough: u64, power: u16) -> Result<List<Node>, NoMemory>
+    requires enough { enough ≤ 2 ^ POWER_LIMIT }
+    requires power { power ≤ POWER_LIMIT }
+    ensures { IfOk result (λ nodes. nodes ≡ tree_of_few enough power) }
 {
     let mut nodes = Vec::new(alloc);
     nodes.push(Node::Open(opened(power)))?;
     nodes.push(siphon(alloc, power)?)?;
     nodes.push(node(alloc, first(alloc, power)?)?)?;
-    nodes.push(node(alloc, start(alloc, power)?)?)?;
+    nodes.push(node(alloc, start(alloc, enough, power)?)?)?;
     nodes.push(node(alloc, never(alloc, power)?)?)?;
     Ok(List::from_vec(nodes))
 }
 
-fn tree(alloc: Global, enough: bool, power: u16) -> Result<List<Node>, NoMemory>
+fn is_within(power: u16, coef: i64) -> bool
     requires { power ≤ POWER_LIMIT }
-    ensures { IfOk result (λ nodes. nodes ≡ flock_tree enough power) }
+    ensures { result ≡ nat_le (nat_abs coef) (2 ^ power) }
 {
-    if enough {
-        enough_tree(alloc, power)
+    coef.unsigned_abs() <= two_to(u32::from(power))
+}
+
+fn are_within(power: u16, coefs: &[i64]) -> bool
+    requires { power ≤ POWER_LIMIT }
+    ensures { result ≡ list_all (λ a. nat_le (nat_abs a) (2 ^ power)) coefs.now }
+{
+    coefs.iter().all(|coef| is_within(power, *coef))
+}
+
+/// What an agent in 2^k counts for at most.
+#[tactic(auto, using(crate::proofs::Powers::power_small))]
+fn full_size(coefs: &[i64], power: u16) -> u64
+    requires { power ≤ POWER_LIMIT }
+    ensures value { result ≡ full_size_of coefs.now power }
+    ensures small { result ≤ 2 ^ POWER_LIMIT }
+{
+    if are_within(power, coefs) {
+        two_to(u32::from(power))
     } else {
-        too_few_tree(alloc, power)
+        two_to(GREATEST_POWER)
     }
 }
 
-/// The trees for true and for false, if true says that there are enough, or denies it.
-pub(crate) fn both_trees(
+/// The tree for one value of the predicate, that there are enough or too few.
+pub(crate) fn tree(
     alloc: Global,
     says: bool,
+    coefs: &[i64],
+    enough: u64,
     power: u16,
-) -> Result<(List<Node>, List<Node>), NoMemory>
-    requires { power ≤ POWER_LIMIT }
-    ensures on_true { IfOk result (λ both. both.0 ≡ flock_tree says power) }
-    ensures on_false { IfOk result (λ both. both.1 ≡ flock_tree (not says) power) }
+) -> Result<List<Node>, NoMemory>
+    requires enough { enough ≤ 2 ^ POWER_LIMIT }
+    requires power { power ≤ POWER_LIMIT }
+    ensures { IfOk result (λ nodes. nodes ≡ flock_tree says (full_size_of coefs.now power) enough power) }
 {
-    let on_true = tree(alloc, says, power)?;
-    let on_false = tree(alloc, !says, power)?;
-    Ok((on_true, on_false))
+    if says {
+        enough_tree(alloc, full_size(coefs, power), power)
+    } else {
+        too_few_tree(alloc, enough, power)
+    }
 }

@@ -6,9 +6,9 @@ ghost use Rattle.comp_flock.specs.FlockLeaf.{IsFlock, flock_leaf_of, IsOffset, H
 ghost use Rattle.comp_flock.specs.FlockProof.{flock_steps, flock_pred_of, offset_part, offset_steps, offset_pred_of};
 
 use crate::leaf::flock_leaf;
-use crate::offset::says_enough;
+use crate::offset::{enough_for, says_enough};
 use crate::power::bound_of_power;
-use crate::trees::both_trees;
+use crate::trees::tree;
 use crate::weights::flock_layers;
 use cert_base::LeafProof;
 use pop_io::{List, NoMemory};
@@ -33,7 +33,10 @@ fn leaf_proof(alloc: Global, coefs: &[i64], bound: i64, power: u32) -> Result<Le
 {
     let pred = offset_pred(alloc, coefs, bound, power)?;
     let layers = flock_layers(alloc, power as u16)?;
-    let (on_true, on_false) = both_trees(alloc, says_enough(bound), power as u16)?;
+    let enough = enough_for(bound);
+    let says = says_enough(bound);
+    let on_true = tree(alloc, says, coefs, enough, power as u16)?;
+    let on_false = tree(alloc, !says, coefs, enough, power as u16)?;
     Ok(LeafProof {
         pred,
         layers,
@@ -42,9 +45,8 @@ fn leaf_proof(alloc: Global, coefs: &[i64], bound: i64, power: u32) -> Result<Le
     })
 }
 
-/// The built leaf of the atom `Less` with these numbers, which says that a sum of variables is at least c, or denies
-/// it, for c at most 2^k, with this many spare helpers; and a valid proof for it. No two moves of the leaf take the same
-/// states.
+/// The built leaf of the atom `Less` with these numbers, which says that a sum is at least c, or denies it, for c at
+/// most 2^k, with this many spare helpers; and a valid proof for it. No two moves of the leaf take the same states.
 pub fn offset_flock(
     alloc: Global,
     coefs: &[i64],

@@ -1,98 +1,40 @@
 -- Leaves, proofs and items of atoms, added one after the other.
 use Rattle.std.proofs.Common.{◌≡◌, ◌∙◌, subst, ℕ, List, [], ◌∷◌, ◌++◌, length, ap, sym}
-use Rattle.std.specs.Prelude.{ℤ, ◌-◌, map}
-use Rattle.std.proofs.lemmas.List.{length-map}
-use Rattle.std.proofs.lemmas.List.FromFn.{length-map-range_with_len}
+use Rattle.std.specs.Prelude.{ℤ, map}
 use Rattle.pop_net.specs.LeafModel.{LeafModel}
 use Rattle.pop_net.specs.declared.net.Item.{Item}
 use Rattle.pop_net.specs.declared.net.Item.TheVariants.{Leaf}
-use Rattle.pres_ast.specs.PredTree.{PredTree, LessThan, Congruent}
+use Rattle.pres_ast.specs.PredTree.{PredTree, LessThan}
 use Rattle.pres_ast.specs.PredModel.{PredModel}
 use Rattle.cert_base.specs.declared.proof.LeafProof.{LeafProof}
-use Rattle.cert_base.specs.ProofBound.{layers_bound}
 use Rattle.cert_base.specs.ValidProof.{ValidLeafProof}
 use Rattle.cert_base.specs.ProofLimits.{IsLeafProofWithin}
-use Rattle.comp_threshold.specs.ThresholdLeaf.{threshold_width, place_of_value, threshold_leaf_of}
-use Rattle.comp_threshold.specs.Built.{IsThreshold}
-use Rattle.comp_remainder.specs.RemainderLeaf.{residue_of, remainder_leaf_of}
-use Rattle.comp_remainder.specs.RemainderProof.{remainder_steps, remainder_part}
-use Rattle.comp_flock.specs.FlockLeaf.{flock_start, flock_leaf_of, flock_bound, offset_leaf_of, offset_helper_count}
-use Rattle.comp_flock.specs.FlockProof.{flock_steps, flock_pred_of, offset_steps, offset_pred_of}
 use Rattle.comp_trees.specs.BuiltLeaf.{IsBuilt}
-use Rattle.comp_powers_leaf.specs.PowersLeaf.{place, start_of, coefficient_of, powers_helper_count, powers_leaf_of}
-use Rattle.comp_powers.specs.PowersProof.{powers_pred_of, powers_steps}
 use Rattle.comp_net.specs.declared.choice.LeafChoice.{LeafChoice}
-use Rattle.comp_net.specs.declared.choice.LessLeaf.TheVariants.{Threshold, Flock, Offset, Powers}
+use Rattle.comp_net.specs.declared.choice.LessLeaf.{LessLeaf}
 use Rattle.comp_net.specs.Atoms.{atoms, postfix, less_leaf_for, most_helpers}
 use Rattle.comp_net.specs.declared.building.Built.{Built}
 use Rattle.comp_net.specs.BuiltNet.{less_leaf, leaf_of}
-use Rattle.comp_net.specs.BuiltBound.{less_steps}
-use Rattle.comp_net.specs.Building.{IsAtomProof, AreAtomProofs, AddProofs, AddsLeaf, AddsTree}
+use Rattle.comp_net.specs.BuiltBound.{less_steps, atom_steps}
+use Rattle.comp_net.specs.Building.{IsAtom, IsAtomProof, AreAtomProofs, AddProofs, AddsLeaf, AddsTree}
 
--- the leaf of a threshold, of a flock with an offset or without, or of powers, is that of the atom
-pub threshold_is : (choice : LeafChoice) (helpers : ℕ) (coefs : List ℤ) (bound : ℤ) (leaf : LeafModel) → less_leaf_for choice coefs bound ≡ Threshold → leaf ≡ threshold_leaf_of coefs bound
-    → leaf ≡ leaf_of choice helpers (LessThan coefs bound)
-threshold_is choice helpers coefs bound leaf none is = is ∙ ap (less_leaf coefs bound helpers) (sym none)
-
-pub flock_is : (choice : LeafChoice) (helpers : ℕ) (coefs : List ℤ) (bound : ℤ) (k : ℕ) (leaf : LeafModel) → less_leaf_for choice coefs bound ≡ Flock k → leaf ≡ flock_leaf_of coefs k
-    → leaf ≡ leaf_of choice helpers (LessThan coefs bound)
-flock_is choice helpers coefs bound k leaf some is = is ∙ ap (less_leaf coefs bound helpers) (sym some)
-
-pub offset_is : (choice : LeafChoice) (helpers : ℕ) (coefs : List ℤ) (bound : ℤ) (k : ℕ) (leaf : LeafModel) → less_leaf_for choice coefs bound ≡ Offset k → leaf ≡ offset_leaf_of coefs bound k (helpers - offset_helper_count bound k)
-    → leaf ≡ leaf_of choice helpers (LessThan coefs bound)
-offset_is choice helpers coefs bound k leaf some is = is ∙ ap (less_leaf coefs bound helpers) (sym some)
-
-pub powers_is : (choice : LeafChoice) (helpers : ℕ) (coefs : List ℤ) (bound : ℤ) (k : ℕ) (leaf : LeafModel) → less_leaf_for choice coefs bound ≡ Powers k → leaf ≡ powers_leaf_of coefs bound k (helpers - powers_helper_count k)
-    → leaf ≡ leaf_of choice helpers (LessThan coefs bound)
-powers_is choice helpers coefs bound k leaf some is = is ∙ ap (less_leaf coefs bound helpers) (sym some)
-
-pub less_proof : (choice : LeafChoice) (helpers : ℕ) (coefs : List ℤ) (bound : ℤ) (leaf : LeafModel) (part : LeafProof) → less_leaf_for choice coefs bound ≡ Threshold → IsThreshold coefs bound leaf part → IsAtomProof choice helpers (LessThan coefs bound) part
-less_proof choice helpers coefs bound leaf part none is =
-    let long : length coefs ≡ length (less_leaf coefs bound helpers (less_leaf_for choice coefs bound)).inputs = sym (length-map coefs (place_of_value (threshold_width coefs bound))) ∙ ap (λ o. length (less_leaf coefs bound helpers o).inputs) (sym none) in
+-- what was built is the leaf of an atom, with a proof for it
+pub built_atom : (choice : LeafChoice) (helpers : ℕ) (atom : PredTree) (own : LeafModel) (pred : PredModel) (steps : ℕ) (leaf : LeafModel) (part : LeafProof) → IsBuilt own pred steps leaf part → own ≡ leaf_of choice helpers atom → pred.tree ≡ atom → pred.variables ≡ length own.inputs → steps ≡ atom_steps choice atom → IsAtom choice helpers atom leaf part
+built_atom choice helpers atom own pred steps leaf part is own_is tree long steps_are =
+    let leaf_is = is.leaf_is ∙ own_is in
     record {
-      tree_is = ap (λ (p : PredModel). p.tree) is.pred_is;
-      valid = subst (λ l. ValidLeafProof l part) (threshold_is choice helpers coefs bound leaf none is.leaf_is) is.valid;
-      within = subst (λ n. IsLeafProofWithin n part) long is.within;
-      bound = is.bound ∙ ap (less_steps coefs bound) (sym none);
+      leaf_is = leaf_is;
+      proof = record {
+        tree_is = ap (λ (p : PredModel). p.tree) is.pred_is ∙ tree;
+        valid = subst (λ l. ValidLeafProof l part) leaf_is is.valid;
+        within = subst (λ n. IsLeafProofWithin n part) (long ∙ ap (λ (l : LeafModel). length l.inputs) own_is) is.within;
+        bound = is.bound ∙ steps_are;
+      };
     }
 
-pub flock_proof : (choice : LeafChoice) (helpers : ℕ) (coefs : List ℤ) (bound : ℤ) (k : ℕ) (leaf : LeafModel) (part : LeafProof) → less_leaf_for choice coefs bound ≡ Flock k → bound ≡ flock_bound k → leaf ≡ flock_leaf_of coefs k → part.pred ≡ flock_pred_of coefs k → ValidLeafProof leaf part → IsLeafProofWithin (length coefs) part → layers_bound part.layers ≡ flock_steps → IsAtomProof choice helpers (LessThan coefs bound) part
-flock_proof choice helpers coefs bound k leaf part some same el ep valid within steps =
-    let long : length coefs ≡ length (less_leaf coefs bound helpers (less_leaf_for choice coefs bound)).inputs = sym (length-map coefs flock_start) ∙ ap (λ o. length (less_leaf coefs bound helpers o).inputs) (sym some) in
-    record {
-      tree_is = ap (λ (p : PredModel). p.tree) ep ∙ ap (LessThan coefs) (sym same);
-      valid = subst (λ l. ValidLeafProof l part) (flock_is choice helpers coefs bound k leaf some el) valid;
-      within = subst (λ n. IsLeafProofWithin n part) long within;
-      bound = steps ∙ ap (less_steps coefs bound) (sym some);
-    }
-
-pub offset_proof : (choice : LeafChoice) (helpers : ℕ) (coefs : List ℤ) (bound : ℤ) (k : ℕ) (leaf : LeafModel) (part : LeafProof) → less_leaf_for choice coefs bound ≡ Offset k → IsBuilt (offset_leaf_of coefs bound k (helpers - offset_helper_count bound k)) (offset_pred_of coefs bound) (offset_steps k) leaf part → IsAtomProof choice helpers (LessThan coefs bound) part
-offset_proof choice helpers coefs bound k leaf part some is =
-    let long : length coefs ≡ length (less_leaf coefs bound helpers (less_leaf_for choice coefs bound)).inputs = sym (length-map coefs flock_start) ∙ ap (λ o. length (less_leaf coefs bound helpers o).inputs) (sym some) in
-    record {
-      tree_is = ap (λ (p : PredModel). p.tree) is.pred_is;
-      valid = subst (λ l. ValidLeafProof l part) (offset_is choice helpers coefs bound k leaf some is.leaf_is) is.valid;
-      within = subst (λ n. IsLeafProofWithin n part) long is.within;
-      bound = is.bound ∙ ap (less_steps coefs bound) (sym some);
-    }
-
-pub powers_proof : (choice : LeafChoice) (helpers : ℕ) (coefs : List ℤ) (bound : ℤ) (k : ℕ) (leaf : LeafModel) (part : LeafProof) → less_leaf_for choice coefs bound ≡ Powers k → IsBuilt (powers_leaf_of coefs bound k (helpers - powers_helper_count k)) (powers_pred_of coefs bound) (powers_steps coefs k) leaf part → IsAtomProof choice helpers (LessThan coefs bound) part
-powers_proof choice helpers coefs bound k leaf part some is =
-    let long : length coefs ≡ length (less_leaf coefs bound helpers (less_leaf_for choice coefs bound)).inputs = sym (length-map-range_with_len (λ j. place coefs k (start_of k j (coefficient_of coefs j))) 0 (length coefs)) ∙ ap (λ o. length (less_leaf coefs bound helpers o).inputs) (sym some) in
-    record {
-      tree_is = ap (λ (p : PredModel). p.tree) is.pred_is;
-      valid = subst (λ l. ValidLeafProof l part) (powers_is choice helpers coefs bound k leaf some is.leaf_is) is.valid;
-      within = subst (λ n. IsLeafProofWithin n part) long is.within;
-      bound = is.bound ∙ ap (less_steps coefs bound) (sym some);
-    }
-
-pub rest_proof : (choice : LeafChoice) (helpers : ℕ) (coefs : List ℤ) (m rest : ℕ) (leaf : LeafModel) (part : LeafProof) → leaf ≡ remainder_leaf_of coefs m rest helpers → part ≡ remainder_part coefs m rest helpers → ValidLeafProof leaf part → IsLeafProofWithin (length coefs) part → layers_bound part.layers ≡ remainder_steps → IsAtomProof choice helpers (Congruent coefs m rest) part
-rest_proof choice helpers coefs m rest leaf part el ep valid within steps = record {
-  tree_is = ap (λ (p : LeafProof). p.pred.tree) ep;
-  valid = subst (λ l. ValidLeafProof l part) el valid;
-  within = subst (λ n. IsLeafProofWithin n part) (sym (length-map coefs (residue_of m))) within;
-  bound = steps;
-}
+pub less_atom : (choice : LeafChoice) (helpers : ℕ) (coefs : List ℤ) (bound : ℤ) (kind : LessLeaf) (pred : PredModel) (leaf : LeafModel) (part : LeafProof) → less_leaf_for choice coefs bound ≡ kind → IsBuilt (less_leaf coefs bound helpers kind) pred (less_steps coefs bound kind) leaf part → pred.tree ≡ LessThan coefs bound → pred.variables ≡ length (less_leaf coefs bound helpers kind).inputs → IsAtom choice helpers (LessThan coefs bound) leaf part
+less_atom choice helpers coefs bound kind pred leaf part some is tree long =
+    built_atom choice helpers (LessThan coefs bound) (less_leaf coefs bound helpers kind) pred (less_steps coefs bound kind) leaf part is (ap (less_leaf coefs bound helpers) (sym some)) tree long (ap (less_steps coefs bound) (sym some))
 
 more_proofs : (choice : LeafChoice) (helpers : ℕ) (xs : List PredTree) (parts : List LeafProof) (a : PredTree) (part : LeafProof) → AreAtomProofs choice helpers xs parts → IsAtomProof choice helpers a part → AreAtomProofs choice helpers (xs ++ a ∷ []) (parts ++ part ∷ [])
 more_proofs choice helpers [] [] a part h is = (is, tt)
@@ -105,10 +47,10 @@ add_one choice helpers before after a part e is others h = subst (AreAtomProofs 
 
 -- an atom is a tree with one leaf
 pub one_added : (choice : LeafChoice) (helpers : ℕ) (atom : PredTree) (leaf : LeafModel) (part : LeafProof) (before after : Built) → atoms atom ≡ atom ∷ [] → ((n : ℕ) → postfix n atom ≡ Leaf n ∷ [])
-    → leaf ≡ leaf_of choice helpers atom → IsAtomProof choice helpers atom part → AddsLeaf leaf part before after → AddsTree choice helpers atom before after
-one_added choice helpers atom leaf part before after one item leaf_is is adds = record {
-  leaves = adds.leaves ∙ ap (λ (l : LeafModel). before.leaves.items ++ l ∷ []) leaf_is ∙ ap (λ (xs : List PredTree). before.leaves.items ++ map (leaf_of choice helpers) xs) (sym one);
-  parts = subst (λ (xs : List PredTree). AddProofs choice helpers xs before.parts.items after.parts.items) (sym one) (add_one choice helpers before.parts.items after.parts.items atom part adds.parts is);
+    → IsAtom choice helpers atom leaf part → AddsLeaf leaf part before after → AddsTree choice helpers atom before after
+one_added choice helpers atom leaf part before after one item is adds = record {
+  leaves = adds.leaves ∙ ap (λ (l : LeafModel). before.leaves.items ++ l ∷ []) is.leaf_is ∙ ap (λ (xs : List PredTree). before.leaves.items ++ map (leaf_of choice helpers) xs) (sym one);
+  parts = subst (λ (xs : List PredTree). AddProofs choice helpers xs before.parts.items after.parts.items) (sym one) (add_one choice helpers before.parts.items after.parts.items atom part adds.parts is.proof);
   items = adds.items ∙ ap (λ (xs : List Item). before.items.items ++ xs) (sym (item (length before.leaves.items)));
 }
 

@@ -9,7 +9,7 @@ use Rattle.pop_io.specs.Names.{AreNames, variable_name}
 use Rattle.pop_net.specs.NetModel.{NetModel}
 use Rattle.pop_checker.specs.Computes.{Computes}
 use Rattle.comp_flock.specs.FlockLeaf.{IsFlock, flock_leaf_of}
-use Rattle.comp_flock.specs.FlockProof.{flock_part}
+use Rattle.comp_flock.specs.FlockProof.{flock_pred_of, flock_part}
 use Rattle.comp_flock.proofs.Small.{flock_is_pred}
 use Rattle.comp_flock.proofs.Steps.{steps_are}
 use Rattle.comp_flock.proofs.Valid.{flock-valid, flock-within}
@@ -17,7 +17,9 @@ use Rattle.comp_net.specs.declared.choice.LeafChoice.TheVariants.{Flocks}
 use Rattle.comp_net.specs.Building.{IsAtomProof}
 use Rattle.comp_net.specs.BuiltNet.{net_with}
 use Rattle.comp_net.specs.AtLeastTwo.{two_leaf, two_net, at_least_two, AtLeastTwoComputes}
-use Rattle.comp_net.proofs.Adding.{flock_proof}
+use Rattle.comp_net.specs.declared.choice.LessLeaf.TheVariants.{Flock}
+use Rattle.comp_flock.proofs.SingleMoves.{moves-single}
+use Rattle.comp_net.proofs.Adding.{less_atom}
 use Rattle.comp_net.proofs.Valid.{net-right}
 
 abbrev coefs : List ℤ
@@ -60,8 +62,9 @@ is_flock = record { some = omega arith; few = omega arith; are = refl; low = ome
 
 atom_proof : IsAtomProof Flocks 0 at_least_two (flock_part coefs 1)
 atom_proof =
-    flock_proof Flocks 0 coefs (negsuc 0) 1 (flock_leaf_of coefs 1) (flock_part coefs 1) refl refl refl refl
-    (flock-valid coefs 1 is_flock) (flock-within coefs 1 is_flock) (steps_are 1 (omega arith))
+    (less_atom Flocks 0 coefs (negsuc 0) (Flock 1) (flock_pred_of coefs 1) (flock_leaf_of coefs 1) (flock_part coefs 1) refl
+    (record { leaf_is = refl; pred_is = refl; valid = flock-valid coefs 1 is_flock; bound = steps_are 1 (omega arith); within = flock-within coefs 1 is_flock; single = moves-single 1 })
+    refl refl).proof
 
 names_formed : AreNames variable_name variables
 names_formed = (
@@ -72,7 +75,7 @@ names_formed = (
 built_computes : Computes (net_with Flocks variables at_least_two) at_least_two 2
 built_computes =
     (net-right Flocks variables at_least_two (flock_part coefs 1 ∷ []) (atom_proof, tt) names_formed
-    (flock_is_pred coefs 1 (omega arith) (omega arith) refl (omega arith)) refl).computes
+    (flock_is_pred coefs 1 is_flock) refl).computes
 
 pub at_least_two_is : AtLeastTwoComputes
 at_least_two_is = record {

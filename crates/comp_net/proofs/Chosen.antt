@@ -13,7 +13,7 @@ use Rattle.comp_threshold.specs.ThresholdLeaf.{threshold_width}
 use Rattle.comp_threshold.specs.declared.fault.ThresholdFault.{ThresholdFault}
 use Rattle.comp_threshold.specs.declared.fault.ThresholdFault.TheVariants.{TooWide}
 use Rattle.comp_threshold.specs.Built.{IsWidthFault}
-use Rattle.comp_flock.specs.FlockLeaf.{power_of, offset_power, offset_helper_count, IsOffset}
+use Rattle.comp_flock.specs.FlockLeaf.{power_of, offset_power, IsOffset}
 use Rattle.comp_flock.specs.declared.limits.TheConstants.{POWER_LIMIT}
 use Rattle.comp_flock.proofs.Offsets.{helpers-most}
 use Rattle.comp_flock.proofs.PowerFound.{IsPower, power_is, IsOffsetPower, offset_power_is}
@@ -80,7 +80,7 @@ offset_low choice coefs bound k e = (chosen_as choice coefs bound (Offset k) e).
 
 pub offset_is_one : (choice : LeafChoice) (coefs : List ℤ) (bound : ℤ) (k : ℕ) → less_leaf_for choice coefs bound ≡ Offset k → IsAtomSum coefs → IsOffset coefs bound k
 offset_is_one choice coefs bound k e sum =
-    let is = chosen_as choice coefs bound (Offset k) e in record { some = sum.some; few = sum.few; are = is.are; high = is.high; within = is.within }
+    let is = chosen_as choice coefs bound (Offset k) e in record { sum = sum; are = is.are; high = is.high; within = is.within }
 
 -- the range suffices where the leaf isn't too large
 pub powers_found : (choice : LeafChoice) (coefs : List ℤ) (bound : ℤ) (k : ℕ) → less_leaf_for choice coefs bound ≡ Powers k → IsAtomSum coefs → atom_size choice (LessThan coefs bound) ≤ size_limit choice → IsPowers coefs bound k

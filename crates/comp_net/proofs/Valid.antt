@@ -1,5 +1,5 @@
 -- The built net is a net, and its proof is valid.
-use Rattle.std.proofs.Common.{◌≡◌, inl, inr, true, false, subst, ℕ, zero, suc, ◌+◌, ◌-◌, ◌≤◌, List, [], ◌∷◌, ◌++◌, length, map, get_or, refl, ap, sym, ◌∙◌, zero-add, arith}
+use Rattle.std.proofs.Common.{◌≡◌, inl, inr, true, false, subst, ℕ, ◌^◌, zero, suc, ◌+◌, ◌-◌, ◌≤◌, List, [], ◌∷◌, ◌++◌, length, map, get_or, refl, ap, sym, ◌∙◌, zero-add, arith}
 use Rattle.std.specs.Prelude.{ℤ, pos, Some, None, IsSomeAnd, All, replicate, AllPairs, slice_get, sum_by}
 use Rattle.std.proofs.lemmas.Bool.{le-ltb, cases_lt, false≢true}
 use Rattle.std.proofs.lemmas.List.{length-map, length-append, length-replicate}
@@ -30,7 +30,7 @@ use Rattle.comp_threshold.proofs.Single.{moves-single as threshold_single}
 use Rattle.comp_remainder.specs.RemainderLeaf.{remainder_state_name}
 use Rattle.comp_remainder.proofs.Formed.{remainder-formed}
 use Rattle.comp_remainder.proofs.SingleMoves.{moves-single as remainder_single}
-use Rattle.comp_flock.specs.FlockLeaf.{flock_start, flock_state_name, offset_helpers, offset_helper_count}
+use Rattle.comp_flock.specs.FlockLeaf.{enough_for, flock_start, flock_state_name, offset_helpers, offset_helper_count}
 use Rattle.comp_flock.proofs.Formed.{flock-formed, offset-formed}
 use Rattle.comp_flock.proofs.SingleMoves.{moves-single as flock_single}
 use Rattle.comp_powers_leaf.specs.declared.role.Role.TheVariants.{Nothing}
@@ -91,8 +91,8 @@ less_built choice helpers coefs bound Threshold is sum some few enough most none
 less_built choice helpers coefs bound (Flock k) is sum some few enough most none =
     let found = is.1 in
     record {
-      formed = flock-formed coefs k sum.some sum.few found.low found.high;
-      inputs = length-map coefs flock_start;
+      formed = flock-formed coefs k (record { some = sum.some; few = sum.few; are = found.are; low = found.low; high = found.high });
+      inputs = length-map coefs (flock_start (2 ^ k) k);
       helped = sym (none is.0);
       narrow = λ l. le-ltb NARROW_STATE_LIMIT _ (let high = found.high in omega (arith, length-map-range_with_len flock_state_name 0 (k + 2), high));
       single = flock_single k;
@@ -102,8 +102,8 @@ less_built choice helpers coefs bound (Offset k) is sum some few enough most non
     let held = length-append (offset_helpers bound k) (replicate spare 0) in
     let more = length-replicate spare (let nobody : ℕ = 0 in nobody) in
     record {
-      formed = offset-formed coefs bound k spare (record { some = sum.some; few = sum.few; are = is.are; high = is.high; within = is.within }) (let room : offset_helper_count bound k + spare ≤ HELPER_LIMIT = omega (arith, enough, most) in room);
-      inputs = length-map coefs flock_start;
+      formed = offset-formed coefs bound k spare (record { sum = sum; are = is.are; high = is.high; within = is.within }) (let room : offset_helper_count bound k + spare ≤ HELPER_LIMIT = omega (arith, enough, most) in room);
+      inputs = length-map coefs (flock_start (enough_for bound) k);
       helped = (let h : length (offset_helpers bound k ++ replicate spare 0) ≡ helpers = omega (arith, held, more, enough) in h);
       narrow = λ l. le-ltb NARROW_STATE_LIMIT _ (let high = is.high in omega (arith, length-map-range_with_len flock_state_name 0 (k + 2), high));
       single = flock_single k;

@@ -20,6 +20,12 @@ pub record IsAtomProof (choice : LeafChoice) (helpers : ℕ) (atom : PredTree) (
   pub within : IsLeafProofWithin (length (leaf_of choice helpers atom).inputs) part
   pub bound : layers_bound part.layers ≡ atom_steps choice atom
 
+-- an atom's leaf, and a valid proof for it
+pub record IsAtom (choice : LeafChoice) (helpers : ℕ) (atom : PredTree) (leaf : LeafModel) (part : LeafProof)
+    : Type 0 where
+  pub leaf_is : leaf ≡ leaf_of choice helpers atom
+  pub proof : IsAtomProof choice helpers atom part
+
 -- one for each atom
 abbrev pub AreAtomProofs : LeafChoice → ℕ → List PredTree → List LeafProof → Type 0
 AreAtomProofs choice helpers [] [] = Unit {0}

@@ -1,10 +1,11 @@
 //! The net and its proof, put together.
 
-ghost use Rattle.std.specs.Prelude.{◌≡◌, ◌≤◌, ◌<◌, ◌+◌, None, All, length, OnOk, IfOk};
+ghost use Rattle.std.specs.Prelude.{◌≡◌, ◌≤◌, ◌<◌, ◌+◌, None, All, length, nat_abs, OnOk, IfOk};
 ghost use Rattle.pop_io.specs.Names.{AreNames, variable_name};
 ghost use Rattle.pres_ast.specs.TreeOf.{tree_of};
 ghost use Rattle.pres_ast.specs.PredTree.{LessThan, Congruent};
-ghost use Rattle.pres_ast.specs.PredModel.{IsPred};
+ghost use Rattle.pres_ast.specs.PredModel.{IsPred, IsAtomSum};
+ghost use Rattle.pres_ast.specs.declared.limits.TheConstants.{BOUND_LIMIT};
 ghost use Rattle.pop_net.specs.declared.limits.TheConstants.{LEAF_LIMIT};
 ghost use Rattle.pop_net.specs.NetModel.{IsNet};
 ghost use Rattle.pop_net.specs.Reaction.{IsSingle};
@@ -12,12 +13,13 @@ ghost use Rattle.cert_base.specs.ProofBound.{proof_bound};
 ghost use Rattle.cert_base.specs.ProofLimits.{IsProofWithin};
 ghost use Rattle.cert_base.specs.ValidProof.{ValidProof};
 ghost use Rattle.pop_checker.specs.Sound.{IsRight};
-ghost use Rattle.comp_net.specs.Atoms.{atoms, less_leaf_for, most_helpers, AreBuildable};
-ghost use Rattle.comp_net.specs.declared.choice.LessLeaf.TheVariants.{Threshold, Flock, Offset, Powers};
-ghost use Rattle.comp_flock.specs.FlockLeaf.{offset_helper_count as offset_count};
+ghost use Rattle.comp_net.specs.Atoms.{atoms, most_helpers, AreBuildable};
+ghost use Rattle.comp_threshold.specs.declared.limits.TheConstants.{WIDTH_LIMIT};
+ghost use Rattle.comp_threshold.specs.ThresholdLeaf.{threshold_width};
+ghost use Rattle.comp_threshold.specs.Built.{IsThreshold};
 ghost use Rattle.comp_net.specs.BuiltNet.{net_with};
 ghost use Rattle.comp_net.specs.BuiltBound.{built_bound};
-ghost use Rattle.comp_net.specs.Building.{AddsLeaf, AddsTree};
+ghost use Rattle.comp_net.specs.Building.{IsAtom, AddsLeaf, AddsTree};
 ghost use Rattle.comp_net.specs.CompileFaults.{fault_with};
 
 use crate::choice::{LeafChoice, LessLeaf, less_leaf};
@@ -66,96 +68,8 @@ impl Built {
         requires most { helpers ≤ HELPER_LIMIT }
         ensures { OnOk result (AddsTree choice helpers (LessThan coefs.now bound) self.old self.new) }
     {
-        match less_leaf(choice, coefs, bound) {
-            LessLeaf::Threshold => self.push_threshold(alloc, choice, helpers, coefs, bound),
-            LessLeaf::Flock(power) => self.push_flock(alloc, choice, helpers, coefs, bound, power),
-            LessLeaf::Offset(power) => self.push_offset(
-                alloc, choice, helpers, coefs, bound, power,
-            ),
-            LessLeaf::Powers(range) => self.push_powers(
-                alloc, choice, helpers, coefs, bound, range,
-            ),
-            LessLeaf::NoLeaf => unreachable!(),
-        }
-    }
-
-    fn push_flock(
-        &mut self,
-        alloc: Global,
-        choice: LeafChoice,
-        helpers: u32,
-        coefs: &[i64],
-        bound: i64,
-        power: u32,
-    ) -> Result<(), NoMemory>
-        requires few { length self.old.leaves.items < LEAF_LIMIT }
-        requires atom { AreBuildable choice (LessThan coefs.now bound) }
-        requires power { less_leaf_for choice coefs.now bound ≡ Flock power }
-        ensures { OnOk result (AddsTree choice helpers (LessThan coefs.now bound) self.old self.new) }
-    {
-        let (leaf, part) = flock(alloc, coefs, power)?;
+        let (leaf, part) = less(alloc, choice, helpers, coefs, bound)?;
         self.push_atom(leaf, part)
-    }
-
-    fn push_offset(
-        &mut self,
-        alloc: Global,
-        choice: LeafChoice,
-        helpers: u32,
-        coefs: &[i64],
-        bound: i64,
-        power: u32,
-    ) -> Result<(), NoMemory>
-        requires few { length self.old.leaves.items < LEAF_LIMIT }
-        requires atom { AreBuildable choice (LessThan coefs.now bound) }
-        requires power { less_leaf_for choice coefs.now bound ≡ Offset power }
-        requires enough { offset_count bound power ≤ helpers }
-        requires most { helpers ≤ HELPER_LIMIT }
-        ensures { OnOk result (AddsTree choice helpers (LessThan coefs.now bound) self.old self.new) }
-    {
-        let spare = helpers - offset_helper_count(bound, power);
-        let (leaf, part) = offset_flock(alloc, coefs, bound, power, spare)?;
-        self.push_atom(leaf, part)
-    }
-
-    fn push_powers(
-        &mut self,
-        alloc: Global,
-        choice: LeafChoice,
-        helpers: u32,
-        coefs: &[i64],
-        bound: i64,
-        range: u32,
-    ) -> Result<(), NoMemory>
-        requires few { length self.old.leaves.items < LEAF_LIMIT }
-        requires atom { AreBuildable choice (LessThan coefs.now bound) }
-        requires range { less_leaf_for choice coefs.now bound ≡ Powers range }
-        requires enough { range + 2 ≤ helpers }
-        requires most { helpers ≤ HELPER_LIMIT }
-        ensures { OnOk result (AddsTree choice helpers (LessThan coefs.now bound) self.old self.new) }
-    {
-        let (leaf, part) = powers(alloc, coefs, bound, range, helpers - (range + 2))?;
-        self.push_atom(leaf, part)
-    }
-
-    fn push_threshold(
-        &mut self,
-        alloc: Global,
-        choice: LeafChoice,
-        helpers: u32,
-        coefs: &[i64],
-        bound: i64,
-    ) -> Result<(), NoMemory>
-        requires few { length self.old.leaves.items < LEAF_LIMIT }
-        requires atom { AreBuildable choice (LessThan coefs.now bound) }
-        requires plain { less_leaf_for choice coefs.now bound ≡ Threshold }
-        ensures { OnOk result (AddsTree choice helpers (LessThan coefs.now bound) self.old self.new) }
-    {
-        match threshold(alloc, coefs, bound) {
-            Ok((leaf, part)) => self.push_atom(leaf, part),
-            Err(Failure::Fault(ThresholdFault::TooWide(_))) => unreachable!(),
-            Err(Failure::NoMemory) => Err(NoMemory),
-        }
     }
 
     fn push_rest(
@@ -215,6 +129,45 @@ impl Built {
             }
         }
         Ok(())
+    }
+}
+
+/// The leaf of a threshold that isn't too wide.
+fn narrow(alloc: Global, coefs: &[i64], bound: i64) -> Result<(Leaf, LeafProof), NoMemory>
+    requires sum { IsAtomSum coefs.now }
+    requires bound { nat_abs bound ≤ BOUND_LIMIT }
+    requires narrow { threshold_width coefs.now bound ≤ WIDTH_LIMIT }
+    ensures { IfOk result (λ both. IsThreshold coefs.now bound both.0 both.1) }
+{
+    match threshold(alloc, coefs, bound) {
+        Ok(both) => Ok(both),
+        Err(Failure::Fault(ThresholdFault::TooWide(_))) => unreachable!(),
+        Err(Failure::NoMemory) => Err(NoMemory),
+    }
+}
+
+/// The leaf of an atom `Less`, with spare helpers where it needs less than there are.
+fn less(
+    alloc: Global,
+    choice: LeafChoice,
+    helpers: u32,
+    coefs: &[i64],
+    bound: i64,
+) -> Result<(Leaf, LeafProof), NoMemory>
+    requires atom { AreBuildable choice (LessThan coefs.now bound) }
+    requires enough { most_helpers choice (LessThan coefs.now bound) ≤ helpers }
+    requires most { helpers ≤ HELPER_LIMIT }
+    ensures { IfOk result (λ both. IsAtom choice helpers (LessThan coefs.now bound) both.0 both.1) }
+{
+    match less_leaf(choice, coefs, bound) {
+        LessLeaf::Threshold => narrow(alloc, coefs, bound),
+        LessLeaf::Flock(power) => flock(alloc, coefs, power),
+        LessLeaf::Offset(power) => {
+            let spare = helpers - offset_helper_count(bound, power);
+            offset_flock(alloc, coefs, bound, power, spare)
+        }
+        LessLeaf::Powers(range) => powers(alloc, coefs, bound, range, helpers - (range + 2)),
+        LessLeaf::NoLeaf => unreachable!(),
     }
 }
 

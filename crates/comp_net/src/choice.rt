@@ -17,8 +17,8 @@ pub enum LeafChoice {
     Plain,
     /// That of a flock for a flock atom, and the plain ones for all others.
     Flocks,
-    /// That of a flock with an offset for an atom that says that a sum of variables is at least c, or denies it, that
-    /// of powers for any other atom `Less`, and that of a remainder, all with equally many helpers.
+    /// That of a flock with an offset for an atom that counts its agents, that of powers for any other atom `Less`, and
+    /// that of a remainder, all with equally many helpers.
     Succinct,
 }
 

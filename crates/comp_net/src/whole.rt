@@ -59,9 +59,9 @@ pub fn compile_flocks(
     compile_with(alloc, LeafChoice::Flocks, pred, names)
 }
 
-/// As `compile`, but with O(log s) states for an atom whose greatest number is s, and with helpers. An atom that says
-/// that a sum of variables is at least c, or denies it, has the leaf of a flock with an offset, and any other atom
-/// `Less` one of powers. All leaves have as many helpers as the one that needs most.
+/// As `compile`, but with O(log s) states for an atom whose greatest number is s, and with helpers. An atom that counts
+/// its agents (`offset_power`) has the leaf of a flock with an offset, and any other atom `Less` one of powers. All
+/// leaves have as many helpers as the one that needs most.
 pub fn compile_succinct(
     alloc: Global,
     pred: &Pred,

@@ -25,7 +25,7 @@ use Rattle.comp_powers_leaf.proofs.Moves.{fixed-first}
 use Rattle.comp_powers_leaf.proofs.Meets.{piece-meets}
 use Rattle.comp_powers_leaf.proofs.Formed.{states-long, moves-few}
 use Rattle.comp_powers.specs.PowersProof.{hubs, no_leak_mix, helped_mix, no_hub_mix, high_mix, few_mix, low_mix, powers_tree, powers_part}
-use Rattle.comp_powers.proofs.Mixes.{all_facts}
+use Rattle.comp_trees.proofs.Mixes.{all_facts}
 use Rattle.comp_powers.proofs.Own.{some_hub, here_facts, high_facts, low_facts, twin_fact, extra}
 use Rattle.comp_powers.proofs.Nodes.{leaf, pred, formed, tw, tw-below, true_row, low_last, high_true_closes, high_false_closes, few_closes, low_true_closes, low_false_closes}
 use Rattle.comp_powers.proofs.Tops.{leak_facts, leak_closes, helped_facts, helped_closes, hub_facts, hub_closes}

@@ -1,4 +1,3 @@
-pub mod Mixes
 pub mod Layers
 pub mod Own
 pub mod Nodes

@@ -34,7 +34,7 @@ use Rattle.comp_powers_leaf.proofs.Meets.{low_rules, high_rules, is_token, low-m
 use Rattle.comp_powers_leaf.proofs.Formed.{start-valid, states-long, powers-formed}
 use Rattle.comp_powers_leaf.proofs.Starts.{start-worth, start-waits, helpers-total, helpers-worth, helpers-owe, helpers-spare, waiting}
 use Rattle.comp_powers.specs.PowersProof.{none, by_role, minus_wrong, credit, minus_ready, high_own, high_mix, low_own, few_mix, low_mix, powers_pred_of}
-use Rattle.comp_powers.proofs.Mixes.{IsPlain, all_facts, IsLow, mix_closes}
+use Rattle.comp_trees.proofs.Mixes.{IsPlain, all_facts, IsLow, mix_closes}
 use Rattle.comp_powers.proofs.Own.{NoState, ruled, out-state, none_out, not_twice-at, occurs-at, company-sum, company-may, here_facts, high_facts, high-none, high-state, high-constant, high-may, low_facts, twin_total, twin_fact, low-sum, low-may, low-none, low-constant}
 
 -- ---- by the states' roles

@@ -4,9 +4,8 @@ use Rattle.std.specs.Prelude.{ℤ, pos, negsuc, neg_ℤ, ◌+ℤ◌, ◌-ℤ◌,
 use Rattle.std.specs.List.{range_with_len}
 use Rattle.std.proofs.lemmas.Int.{ints}
 use Rattle.std.proofs.Math.IntN.{zero-*ℤ}
-use Rattle.std.proofs.Math.ListN.{get_or-append}
 use Rattle.std.proofs.lemmas.Bool.{ne_eqb}
-use Rattle.std.proofs.lemmas.List.{length-map, length-replicate, get_or-map, get_or_past, get_or-append-add, get_or-replicate}
+use Rattle.std.proofs.lemmas.List.{length-replicate}
 use Rattle.std.proofs.lemmas.List.Elements.{All-get_or}
 use Rattle.pop_net.specs.declared.leaf.Move.{Move}
 use Rattle.pop_net.specs.LeafModel.{LeafModel, IsMoveBelow}
@@ -14,12 +13,12 @@ use Rattle.pres_ast.specs.PredModel.{PredModel}
 use Rattle.cert_base.specs.declared.fact.Fact.{Fact}
 use Rattle.cert_base.specs.declared.fact.Fact.TheVariants.{Eq}
 use Rattle.cert_base.specs.Rows.{terms_from, zeros, constant_row}
-use Rattle.cert_base.specs.ClosingTests.{closes_by_sum, may_add, coefficient_in}
+use Rattle.cert_base.specs.ClosingTests.{closes_by_sum, may_add}
 use Rattle.cert_base.specs.FactsAndCases.{indicator, is_in, takes_from, puts_into, helpers_among, some_taken_fact, no_moves, no_start_facts, no_helper_facts, count_row, absent_fact}
 use Rattle.cert_base.specs.WeightedSums.{sum_of_facts, coefficient, constant_of, may_weigh}
 use Rattle.cert_base.proofs.WeightedSums.{weighted_sum-append, weighted_sum-zeros, may_weigh-append, may_weigh-zeros}
-use Rattle.cert_base.proofs.FlowSums.{coefficient-dense}
 use Rattle.comp_trees.proofs.LeaderEnds.{absent-at, shifted, is_wrong}
+use Rattle.comp_trees.proofs.TakenMoves.{taken-before, taken-move, taken-past}
 use Rattle.comp_trees.proofs.TrapNodes.{states-state, states-input, states-past}
 use Rattle.list_laws.proofs.Numbers.{same_turned}
 use Rattle.comp_powers_leaf.specs.declared.role.Role.{Role}
@@ -29,27 +28,11 @@ use Rattle.comp_powers_leaf.proofs.Places.{place-role}
 use Rattle.comp_powers_leaf.proofs.Moves.{ByRoles}
 use Rattle.comp_powers_leaf.proofs.Kept.{is_hub, KeepsHub, hub-kept}
 use Rattle.comp_powers_leaf.proofs.Formed.{states-long}
-use Rattle.comp_powers_leaf.proofs.Starts.{count-more}
+use Rattle.comp_trees.proofs.HelperSums.{count-more}
 use Rattle.comp_powers.specs.PowersProof.{none, hubs, no_leak_mix, helped_mix, no_hub_mix}
-use Rattle.comp_powers.proofs.Mixes.{all_facts, IsLow, mix_closes}
+use Rattle.comp_trees.proofs.Mixes.{all_facts, IsLow, mix_closes}
 use Rattle.comp_powers.proofs.Own.{some_hub}
 use Rattle.comp_powers.proofs.Nodes.{leaf, pred, formed, plain, none-total}
-
--- ---- a row over the moves
-
-before_moves : (leaf : LeafModel) (f : Move → ℤ) (x : ℕ) → x < length leaf.inputs + length leaf.states → coefficient_in (terms_from 0 (zeros (length leaf.inputs + length leaf.states) ++ map f leaf.moves)) x ≡ pos 0
-before_moves leaf f x l =
-    let n = length leaf.inputs + length leaf.states in
-    coefficient-dense (zeros n ++ map f leaf.moves) x
-    ∙ get_or-append (zeros n) (map f leaf.moves) (pos 0) x (omega (arith, length-replicate n (pos 0)))
-    ∙ get_or-replicate n x (pos 0) (pos 0) l
-
-part_of_moves : (leaf : LeafModel) (f : Move → ℤ) (t : ℕ) → coefficient_in (terms_from 0 (zeros (length leaf.inputs + length leaf.states) ++ map f leaf.moves)) (length leaf.inputs + length leaf.states + t) ≡ get_or (map f leaf.moves) t (pos 0)
-part_of_moves leaf f t =
-    let n = length leaf.inputs + length leaf.states in
-    coefficient-dense (zeros n ++ map f leaf.moves) (n + t)
-    ∙ ap (λ m. get_or (zeros n ++ map f leaf.moves) (m + t) (pos 0)) (sym (length-replicate n (pos 0)))
-    ∙ get_or-append-add (zeros n) (map f leaf.moves) t (pos 0)
 
 -- ---- the places of the hubs
 
@@ -101,20 +84,20 @@ module _ (coefs : List ℤ) (bound : ℤ) (k spare : ℕ) (is : IsPowers coefs b
   leak_low b row constant = record {
     at_inputs = λ i l. (
         let a = zero-*ℤ (get_or row i (pos 0)) in
-        let own = leak-sum (coefficient i) ∙ before_moves here (λ t. indicator (leaks t)) i (omega arith) in
+        let own = leak-sum (coefficient i) ∙ taken-before here leaks i (omega arith) in
         omega (arith, ints, a, own));
     at_states = λ z l. (
         let a = zero-*ℤ (indicator (is_wrong here b z)) in
-        let own = leak-sum (coefficient (length here.inputs + z)) ∙ before_moves here (λ t. indicator (leaks t)) (length here.inputs + z) (omega arith) in
+        let own = leak-sum (coefficient (length here.inputs + z)) ∙ taken-before here leaks (length here.inputs + z) (omega arith) in
         omega (arith, ints, a, own));
     at_moves = λ t d l. (
         let below = subst (λ m. IsMoveBelow m (get_or here.moves t d)) (states-long coefs bound k) (All-get_or (IsMoveBelow (length here.states)) here.moves t d l (formed coefs bound k spare is room).moves) in
         let keep = All-get_or (ByRoles coefs k (KeepsHub coefs k)) here.moves t d l (hub-kept coefs k) in
         let none_leaks = ap indicator (no-leak (get_or here.moves t d) below keep) in
-        let own = leak-sum (coefficient (length here.inputs + length here.states + t)) ∙ part_of_moves here (λ t. indicator (leaks t)) t ∙ get_or-map (λ t. indicator (leaks t)) here.moves t d (pos 0) l in
+        let own = leak-sum (coefficient (length here.inputs + length here.states + t)) ∙ taken-move here leaks t d l in
         omega (arith, ints, own, none_leaks));
     at_past = λ j. (
-        let own = leak-sum (coefficient (length here.inputs + length here.states + (length here.moves + j))) ∙ part_of_moves here (λ t. indicator (leaks t)) (length here.moves + j) ∙ get_or_past (map (λ t. indicator (leaks t)) here.moves) (length here.moves + j) (pos 0) (omega (arith, length-map here.moves (λ t. indicator (leaks t)))) in
+        let own = leak-sum (coefficient (length here.inputs + length here.states + (length here.moves + j))) ∙ taken-past here leaks j in
         omega (arith, ints, own));
     at_end = (let sum = none-total here.helpers in let a = zero-*ℤ constant in omega (arith, ints, sum, a));
   }

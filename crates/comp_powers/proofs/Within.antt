@@ -204,7 +204,7 @@ module _ (coefs : List ℤ) (bound : ℤ) (k spare : ℕ) (is : IsPowers coefs b
 
   -- ---- the layers
 
-  layer-within : (i : ℕ) (weight : Role → ℕ) → ((r : Role) → IsRole coefs k r → weight r ≤ 1000) → IsLayerWithin (sorted_layer (powers_moves coefs k) (powers_kind coefs k) i (layer_weights coefs k weight))
+  layer-within : (i : ℕ) (weight : Role → ℕ) → ((r : Role) → IsRole coefs k r → IsSmall (pos (weight r))) → IsLayerWithin (sorted_layer (powers_moves coefs k) (powers_kind coefs k) i (layer_weights coefs k weight))
   layer-within i weight small =
       let few = moves-few coefs k is.power in
       let states = is.states in
@@ -216,25 +216,25 @@ module _ (coefs : List ℤ) (bound : ℤ) (k spare : ℕ) (is : IsPowers coefs b
       }
     where
       weights-at : All (λ r. IsSmall (pos (weight r))) (roles coefs k)
-      weights-at = All-weaker (IsRole coefs k) (λ r. IsSmall (pos (weight r))) (λ r v. let m = small r v in omega (arith, m)) (roles coefs k) (valid-all coefs k)
+      weights-at = All-weaker (IsRole coefs k) (λ r. IsSmall (pos (weight r))) small (roles coefs k) (valid-all coefs k)
 
-  answer-small : (b : Bool) (r : Role) → answer_weight b r ≤ 1000
+  answer-small : (b : Bool) (r : Role) → IsSmall (pos (answer_weight b r))
   answer-small b r = go r
     where
-      one-most : (c : Bool) → one_if c ≤ 1
+      one-most : (c : Bool) → IsSmall (pos (one_if c))
       one-most true = omega arith
       one-most false = omega arith
 
-      go : (r : Role) → answer_weight b r ≤ 1000
+      go : (r : Role) → IsSmall (pos (answer_weight b r))
       go Low = omega arith
       go High = omega arith
-      go (Nothing c) = let m = one-most (if b then c else not c) in omega (arith, m)
-      go (Piece i c) = let m = one-most (if b then c else not c) in omega (arith, m)
+      go (Nothing c) = one-most (if b then c else not c)
+      go (Piece i c) = one-most (if b then c else not c)
       go Plus = omega arith
       go (Debtor j) = omega arith
       go (Token j i) = omega arith
 
-  sum-small : (r : Role) → IsRole coefs k r → sum_weight k r ≤ 1000
+  sum-small : (r : Role) → IsRole coefs k r → IsSmall (pos (sum_weight k r))
   sum-small Low v = omega arith
   sum-small High v = omega arith
   sum-small (Nothing b) v = omega arith

@@ -13,7 +13,7 @@ use Rattle.cert_base.specs.declared.proof.LeafProof.{LeafProof}
 use Rattle.cert_base.specs.Rows.{zeros}
 use Rattle.cert_base.specs.FactsAndCases.{indicator, differs, states_of, can_meet_in, puts_into, no_moves, no_start_facts}
 use Rattle.comp_trees.specs.SortedLayers.{sorted_layers}
-use Rattle.comp_trees.specs.LeaderTree.{company_of, weighed_node}
+use Rattle.comp_trees.specs.LeaderTree.{company_of, weighed_node, mix_over}
 use Rattle.comp_powers_leaf.specs.declared.role.Role.{Role}
 use Rattle.comp_powers_leaf.specs.declared.role.Role.TheVariants.{Low, High, Nothing, Piece, Plus, Debtor, Token}
 use Rattle.comp_powers_leaf.specs.PowersLeaf.{roles, HasRange, owed, coefficient_of, chain_of, worth, role_at, place, powers_moves, powers_leaf_of}
@@ -24,9 +24,8 @@ powers_layers_of coefs k = sorted_layers (powers_moves coefs k) (powers_kind coe
 
 -- ---- multipliers
 
--- those of the base facts, of the opened predicate, and of the facts after it
 abbrev pub mix_of : LeafModel → (ℕ → ℤ) → ℤ → ℤ → List ℤ → List ℤ
-mix_of leaf flows wrong opened own = ((map flows (states_of leaf) ++ pos 0 ∷ pos 0 ∷ wrong ∷ []) ++ opened ∷ []) ++ own
+mix_of leaf flows wrong opened own = mix_over (map flows (states_of leaf)) wrong opened own
 
 abbrev pub none : ℕ → ℤ
 none q = pos 0

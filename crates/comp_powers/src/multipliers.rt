@@ -13,29 +13,10 @@ use crate::values::{lost, owed, ready, same, size, sizes, worths, wrong};
 use crate::weights::push_if;
 use cert_base::{Node, can_meet};
 use comp_powers_leaf::Role;
-use comp_trees::{MULTIPLIER_LIMIT, company, picked, weighed};
+use comp_trees::{company, mixed, picked};
 use pop_io::NoMemory;
 use pop_net::{Leaf, Move};
 use std::alloc::Global;
-
-/// The node with these multipliers of the base facts, of the opened predicate, and of the facts after it.
-fn mixed(
-    alloc: Global,
-    flows: &[i64],
-    wrong: i64,
-    opened: i64,
-    own: &[i64],
-) -> Result<Node, NoMemory>
-    requires { length flows.now + 4 + length own.now ≤ MULTIPLIER_LIMIT }
-    ensures { IfOk result (λ node.
-        node ≡ weighed_node (((flows.now ++ pos 0 ∷ pos 0 ∷ wrong ∷ []) ++ opened ∷ []) ++ own.now)) }
-{
-    let mut multipliers = Vec::from_slice(alloc, flows)?;
-    multipliers.extend_from_slice(&[0, 0, wrong])?;
-    multipliers.extend_from_slice(&[opened])?;
-    multipliers.extend_from_slice(own)?;
-    weighed(alloc, multipliers.as_slice())
-}
 
 /// No move leaves the hubs.
 pub(crate) fn no_leak(alloc: Global, leaf: &Leaf) -> Result<Node, NoMemory>

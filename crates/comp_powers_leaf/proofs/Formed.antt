@@ -1,19 +1,17 @@
 -- The leaf is well formed.
-use Rattle.std.proofs.Common.{◌≡◌, ◌∙◌, subst, ℕ, zero, suc, ◌+◌, ◌*◌, ◌<◌, ◌≤◌, Bool, true, false, ◌&&◌, List, ◌∷◌, length, map, length-append, refl, ap, sym, arith}
-use Rattle.std.specs.Prelude.{ℤ, pos, negsuc, ◌<ℤ◌, nat_le, replicate, IsTrue, Option, Some, None, All, flat_map, if◌then◌else◌, ◌==◌}
-use Rattle.std.specs.List.{range_with_len, list_all}
-use Rattle.std.specs.Fmt.{decimal}
+use Rattle.std.proofs.Common.{◌≡◌, ◌∙◌, subst, ℕ, zero, suc, ◌+◌, ◌*◌, ◌<◌, ◌≤◌, Bool, true, false, List, ◌∷◌, length, map, length-append, refl, ap, sym, arith}
+use Rattle.std.specs.Prelude.{ℤ, pos, negsuc, ◌<ℤ◌, replicate, Option, Some, None, All, flat_map, if◌then◌else◌, ◌==◌}
+use Rattle.std.specs.List.{range_with_len}
 use Rattle.std.proofs.lemmas.Int.{ints}
-use Rattle.std.proofs.lemmas.Fmt.{decimal_injective, length-decimal-le}
-use Rattle.std.proofs.lemmas.Bool.{le-leb}
+use Rattle.std.proofs.lemmas.Fmt.{decimal_injective}
 use Rattle.std.proofs.lemmas.List.{length-map, length-replicate}
 use Rattle.std.proofs.lemmas.List.Elements.{All-cons, All-append, All-map, All-replicate}
 use Rattle.std.proofs.lemmas.List.FromFn.{length-map-range_with_len}
-use Rattle.pop_io.specs.Names.{is_printed, state_name, AreNames}
+use Rattle.pop_io.specs.Names.{state_name, AreNames}
 use Rattle.pop_net.specs.declared.leaf.Move.{Move}
 use Rattle.pop_net.specs.LeafModel.{LeafModel, IsLeaf, IsMoveBelow}
 use Rattle.list_laws.proofs.Ranges.{all_range}
-use Rattle.comp_trees.proofs.StateNames.{decimal-printed, named-apart}
+use Rattle.comp_trees.proofs.StateNames.{number-named, named-apart}
 use Rattle.comp_powers_leaf.specs.declared.role.Role.{Role}
 use Rattle.comp_powers_leaf.specs.declared.role.Role.TheVariants.{Nothing, Piece}
 use Rattle.comp_powers_leaf.specs.PowersLeaf.{coefficient_of, chain_of, power_in, rest_of, says, roles, fixed_count, role_at, place, meet, move_by, moves_at, powers_moves, start_by, start_of, powers_inputs, hub_of, lacking, has_bit, bit_role, helper_roles, all_helper_roles, powers_helper_count, state_name_at, powers_leaf_of, IsPowers, HasRange, HasRoom}
@@ -23,25 +21,9 @@ use Rattle.comp_powers_leaf.proofs.Moves.{power-valid, moves-below, fixed-first}
 
 -- ---- names
 
-number-name : (n : ℕ) → n ≤ 1000 → IsTrue (state_name (decimal n))
-number-name n l =
-    let long = length-decimal-le 12 n (omega arith) (omega arith) (omega arith) in
-    let is = decimal-printed n (omega arith) in
-    let some = is.some in
-    let a : nat_le 1 (length (decimal n)) ≡ true = le-leb 1 (length (decimal n)) some in
-    let b : list_all is_printed (decimal n) ≡ true = is.all in
-    let c : nat_le (length (decimal n)) 32 ≡ true = le-leb (length (decimal n)) 32 (omega arith) in
-    from_true (state_name (decimal n)) (and_all a b c)
-  where
-    from_true : (b : Bool) → b ≡ true → IsTrue b
-    from_true b e = e
-
-    and_all : {a b c : Bool} → a ≡ true → b ≡ true → c ≡ true → ((a && b) && c) ≡ true
-    and_all e f g = rw (e, f, g) refl
-
 names-formed : (n : ℕ) → n ≤ 512 → AreNames state_name (map state_name_at (range_with_len 0 n))
 names-formed n few =
-    named-apart state_name_at n (λ i l. number-name i (omega arith)) (λ i j l m e. decimal_injective i j (omega arith) (omega arith) e)
+    named-apart state_name_at n (λ i l. number-named i (omega arith)) (λ i j l m e. decimal_injective i j (omega arith) (omega arith) e)
 
 -- ---- how many moves
 

@@ -1,19 +1,15 @@
 -- What the inputs and the helpers are worth, and how many of them wait.
 use Rattle.std.proofs.Common.{◌≡◌, inl, inr, ◌∙◌, ℕ, zero, suc, ◌+◌, ◌-◌, ◌^◌, ◌%◌, ◌<◌, ◌≤◌, Bool, true, false, List, [], ◌∷◌, ◌++◌, map, refl, ap, sym, arith}
-use Rattle.std.specs.Prelude.{ℤ, pos, negsuc, neg_ℤ, ◌+ℤ◌, ◌*ℤ◌, ◌<ℤ◌, nat_abs, Option, Some, None, find, cond, replicate, All, count_by, if◌then◌else◌, ◌==◌}
+use Rattle.std.specs.Prelude.{ℤ, pos, negsuc, neg_ℤ, ◌+ℤ◌, ◌<ℤ◌, nat_abs, Option, Some, None, find, cond, replicate, All, if◌then◌else◌, ◌==◌}
 use Rattle.std.specs.List.{range_with_len}
 use Rattle.std.proofs.lemmas.Int.{ints}
-use Rattle.std.proofs.Math.IntN.{*ℤ-zero}
 use Rattle.std.proofs.lemmas.Bool.{eqb-true, eq-eqb, cases_eq}
 use Rattle.std.proofs.lemmas.Option.{slice_get_within, get_or_from_slice_get}
 use Rattle.std.proofs.lemmas.List.FromFn.{length-range_with_len, get_or-range_with_len}
 use Rattle.std.proofs.lemmas.List.Elements.{All-head, All-tail}
-use Rattle.std.proofs.lemmas.List.Sums.{sum_by-cons}
 use Rattle.pop_net.proofs.Found.{find_some}
-use Rattle.cert_base.specs.FactsAndCases.{indicator}
 use Rattle.cert_base.specs.WeightedSums.{total}
-use Rattle.cert_base.proofs.FlowSums.{total-same, total-none, total-plus, total-one}
-use Rattle.cert_base.proofs.Integers.{mul-add}
+use Rattle.comp_trees.proofs.HelperSums.{total-append}
 use Rattle.list_laws.proofs.Ranges.{range_one_more}
 use Rattle.comp_powers_leaf.specs.declared.role.Role.{Role}
 use Rattle.comp_powers_leaf.specs.declared.role.Role.TheVariants.{Low, High, Nothing, Piece, Plus, Debtor, Token}
@@ -79,33 +75,9 @@ module _ (coefs : List ℤ) (bound : ℤ) (k : ℕ) where
 
 -- ---- helpers
 
-pub count-more : {A : Type 0} (test : A → Bool) (h : A) (hs : List A) → count_by test (h ∷ hs) ≡ (if test h then 1 else 0) + count_by test hs
-count-more test h hs = sum_by-cons (λ z. if test z then 1 else 0) h hs
-
-count-cons : (q h : ℕ) (hs : List ℕ) → pos (count_by (λ z. z == q) (h ∷ hs)) ≡ (indicator (h == q) +ℤ pos (count_by (λ z. z == q) hs))
-count-cons q h hs = let more = count-more (λ z. z == q) h hs in let is = one (h == q) in omega (arith, ints, more, is)
-  where
-    one : (b : Bool) → pos (if b then 1 else 0) ≡ indicator b
-    one true = refl
-    one false = refl
-
--- the states' values, each times the helpers there, are the helpers' values
-pub total-helpers : (w : ℕ → ℤ) (n : ℕ) (hs : List ℕ) → All (λ q. q < n) hs → total (λ q. w q *ℤ pos (count_by (λ z. z == q) hs)) (range_with_len 0 n) ≡ total w hs
-total-helpers w n [] all = total-none (λ q. w q *ℤ pos 0) (range_with_len 0 n) (λ q. *ℤ-zero (w q))
-total-helpers w n (h ∷ hs) all =
-    let here = total-one w n h (All-head (λ q. q < n) h hs all) in
-    let rest = total-helpers w n hs (All-tail (λ q. q < n) h hs all) in
-    let split = total-same (λ q. w q *ℤ pos (count_by (λ z. z == q) (h ∷ hs))) (λ q. (w q *ℤ indicator (h == q)) +ℤ (w q *ℤ pos (count_by (λ z. z == q) hs))) (range_with_len 0 n) (λ q. ap (λ c. w q *ℤ c) (count-cons q h hs) ∙ mul-add (w q) (indicator (h == q)) (pos (count_by (λ z. z == q) hs))) in
-    let both = total-plus (λ q. w q *ℤ indicator (h == q)) (λ q. w q *ℤ pos (count_by (λ z. z == q) hs)) (range_with_len 0 n) in
-    omega (arith, ints, here, rest, split, both)
-
 pub total-map : {A B : Type 0} (f : B → ℤ) (g : A → B) (xs : List A) → total f (map g xs) ≡ total (λ x. f (g x)) xs
 total-map f g [] = refl
 total-map f g (x ∷ xs) = ap (λ z. f (g x) +ℤ z) (total-map f g xs)
-
-total-append : {A : Type 0} (f : A → ℤ) (xs ys : List A) → total f (xs ++ ys) ≡ (total f xs +ℤ total f ys)
-total-append f [] ys = omega (arith, ints)
-total-append f (x ∷ xs) ys = let e = total-append f xs ys in omega (arith, ints, e)
 
 replicate-none : {A : Type 0} (f : A → ℤ) (x : A) (n : ℕ) → f x ≡ pos 0 → total f (replicate n x) ≡ pos 0
 replicate-none f x zero e = refl

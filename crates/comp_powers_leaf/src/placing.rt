@@ -1,6 +1,6 @@
 //! The states in order, and their places.
 
-ghost use Rattle.std.specs.Prelude.{◌≡◌, ◌≤◌, ◌++◌, ◌+◌, length, map, flat_map, IfOk, OnOk};
+ghost use Rattle.std.specs.Prelude.{◌≡◌, ◌≤◌, ◌++◌, ◌+◌, ◌*◌, length, map, flat_map, IfOk, OnOk};
 ghost use Rattle.std.specs.List.{range_with_len};
 ghost use Rattle.pop_io.specs.declared.names.TheConstants.{VARIABLE_LIMIT};
 ghost use Rattle.comp_powers_leaf.specs.declared.limits.TheConstants.{RANGE_LIMIT};
@@ -13,8 +13,8 @@ use crate::role::{Role, behind};
 use pop_io::NoMemory;
 use std::alloc::Global;
 
-/// The power that n is.
-pub(crate) fn power_of(k: u32, n: u64) -> Option<u16>
+/// The number i with 2^i = n, up to k.
+pub fn power_of(k: u32, n: u64) -> Option<u16>
     requires { k ≤ RANGE_LIMIT }
     ensures { result ≡ power_in k n }
 {
@@ -58,7 +58,7 @@ fn before(coefs: &[i64], k: u32, j: u16) -> u64
     requires range { k ≤ RANGE_LIMIT }
     requires variable { j ≤ length coefs.now }
     ensures value { result ≡ states_before k coefs.now j }
-    ensures small { result ≤ 1000 }
+    ensures small { result ≤ VARIABLE_LIMIT * (RANGE_LIMIT + 1) }
 {
     let mut sum = 0;
     for i in 0..j {

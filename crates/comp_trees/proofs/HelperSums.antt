@@ -1,5 +1,5 @@
 -- The states' values, each times the helpers that start there, are the helpers' values.
-use Rattle.std.proofs.Common.{◌≡◌, ◌∙◌, ap, ℕ, ◌+◌, ◌<◌, Bool, true, false, List, [], ◌∷◌, length, map, refl, arith}
+use Rattle.std.proofs.Common.{◌≡◌, ◌∙◌, ap, ℕ, ◌+◌, ◌<◌, Bool, true, false, List, [], ◌∷◌, ◌++◌, length, map, refl, arith}
 use Rattle.std.specs.Prelude.{ℤ, pos, ◌+ℤ◌, ◌*ℤ◌, ◌==◌, if◌then◌else◌, All, count_by}
 use Rattle.std.specs.List.{range_with_len}
 use Rattle.std.proofs.lemmas.Int.{ints}
@@ -12,7 +12,7 @@ use Rattle.cert_base.specs.WeightedSums.{sum_of_facts, constant_of, total}
 use Rattle.cert_base.proofs.Integers.{mul-add}
 use Rattle.cert_base.proofs.FlowSums.{total-same, total-none, total-plus, total-one, law-constant}
 
-count-more : {A : Type 0} (test : A → Bool) (h : A) (hs : List A) → count_by test (h ∷ hs) ≡ (if test h then 1 else 0) + count_by test hs
+pub count-more : {A : Type 0} (test : A → Bool) (h : A) (hs : List A) → count_by test (h ∷ hs) ≡ (if test h then 1 else 0) + count_by test hs
 count-more test h hs = sum_by-cons (λ z. if test z then 1 else 0) h hs
 
 count-cons : (q h : ℕ) (hs : List ℕ) → pos (count_by (λ z. z == q) (h ∷ hs)) ≡ (indicator (h == q) +ℤ pos (count_by (λ z. z == q) hs))
@@ -43,3 +43,9 @@ total-starting w n (h ∷ hs) all =
 -- the constant of the flow facts' sum
 pub constant-helpers : (leaf : LeafModel) (w : ℕ → ℤ) → All (λ q. q < length leaf.states) leaf.helpers → sum_of_facts constant_of (map (flow leaf) (states_of leaf)) (map w (states_of leaf)) ≡ total w leaf.helpers
 constant-helpers leaf w all = law-constant leaf w ∙ total-starting w (length leaf.states) leaf.helpers all
+
+-- ---- totals over lists
+
+pub total-append : {A : Type 0} (f : A → ℤ) (xs ys : List A) → total f (xs ++ ys) ≡ (total f xs +ℤ total f ys)
+total-append f [] ys = omega (arith, ints)
+total-append f (x ∷ xs) ys = let e = total-append f xs ys in omega (arith, ints, e)

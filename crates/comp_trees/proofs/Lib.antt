@@ -12,6 +12,8 @@ pub mod LeaderEnds
 pub mod TrapNodes
 pub mod LeaderClosing
 pub mod ValueNodes
+pub mod Mixes
+pub mod TakenMoves
 pub mod TreeOfEnds
 pub mod SameMix
 pub mod Limits

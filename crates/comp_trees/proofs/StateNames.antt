@@ -1,9 +1,9 @@
 -- Names of states that are made of decimals: when they are well formed, and when no two are equal.
-use Rattle.std.proofs.Common.{◌≡◌, ◌≢◌, ◌∙◌, subst, ℕ, ◌+◌, ◌%◌, ◌^◌, ◌<◌, ◌≤◌, true, false, List, [], ◌∷◌, ◌++◌, length, map, get_or, refl, sym, zero-add, arith}
+use Rattle.std.proofs.Common.{◌≡◌, ◌≢◌, ◌∙◌, subst, ℕ, ◌+◌, ◌%◌, ◌^◌, ◌<◌, ◌≤◌, Bool, true, false, ◌&&◌, List, [], ◌∷◌, ◌++◌, length, map, get_or, refl, sym, zero-add, arith}
 use Rattle.std.specs.Prelude.{◌==◌, nat_le, All, AllPairs, IsTrue}
 use Rattle.std.specs.List.{range_with_len, list_all}
 use Rattle.std.specs.Fmt.{decimal}
-use Rattle.std.proofs.lemmas.Fmt.{decimal_by_steps}
+use Rattle.std.proofs.lemmas.Fmt.{decimal_by_steps, length-decimal-le}
 use Rattle.std.proofs.lemmas.Bool.{le-leb, ne_eqb, and_parts}
 use Rattle.std.proofs.lemmas.List.FromFn.{length-map-range_with_len, get_or-map-range_with_len}
 use Rattle.pop_io.specs.Names.{is_printed, state_name, AreNames}
@@ -35,6 +35,23 @@ decimal-printed n l =
     more : (ds : List ℕ) (c : ℕ) → 1 ≤ length (ds ++ c ∷ [])
     more [] c = omega arith
     more (d ∷ ds) c = omega arith
+
+-- a number of few digits is a name
+pub number-named : (n : ℕ) → n < 10 ^ 12 → IsTrue (state_name (decimal n))
+number-named n l =
+    let long = length-decimal-le 12 n (omega arith) l (omega (arith, l)) in
+    let is = decimal-printed n (omega (arith, l)) in
+    let some = is.some in
+    let a : nat_le 1 (length (decimal n)) ≡ true = le-leb 1 (length (decimal n)) some in
+    let b : list_all is_printed (decimal n) ≡ true = is.all in
+    let c : nat_le (length (decimal n)) 32 ≡ true = le-leb (length (decimal n)) 32 (omega arith) in
+    from_true (state_name (decimal n)) (and_all a b c)
+  where
+    from_true : (b : Bool) → b ≡ true → IsTrue b
+    from_true b e = e
+
+    and_all : {a b c : Bool} → a ≡ true → b ≡ true → c ≡ true → ((a && b) && c) ≡ true
+    and_all e f g = rw (e, f, g) refl
 
 -- the names of `count` states, each by its number
 pub named-apart : (name : ℕ → List ℕ) (count : ℕ)

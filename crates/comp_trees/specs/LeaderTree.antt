@@ -85,6 +85,10 @@ no_start_mix leaf = if length leaf.helpers == 0 then no_input_mix leaf else help
 abbrev pub weighed_node : List ℤ → Node
 weighed_node multipliers = Linear (terms_from 0 multipliers)
 
+-- the multipliers of the base facts, of the opened predicate, and of the facts after it
+abbrev pub mix_over : List ℤ → ℤ → ℤ → List ℤ → List ℤ
+mix_over flows wrong opened own = ((flows ++ pos 0 ∷ pos 0 ∷ wrong ∷ []) ++ opened ∷ []) ++ own
+
 abbrev pub leader_tree : LeafModel → ℕ → (ℕ → Node) → List Node
 leader_tree leaf n ends =
     Open (length leaf.states + 1) ∷ Trap (leaders n) ∷ weighed_node (no_leak_mix leaf)

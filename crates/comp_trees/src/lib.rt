@@ -1,6 +1,6 @@
 //! Trees of cases, and layers by kinds of moves, for a leaf in which leaders turn the others.
 //! It stands on `cert_base`.
-//! The layer above uses: `tree`, `multipliers`, `company`, `picked` and `layer` are the defined ones;
+//! The layer above uses: `tree`, `multipliers`, `mix`, `company`, `picked` and `layer` are the defined ones;
 //! `leader_tree-closes` says when a tree closes, and `sorted_layers-valid` when layers are valid.
 //!
 //! Agents start as leaders, and each move leaves a leader. So the leaders are a trap that is marked at the start, and
@@ -14,7 +14,7 @@ mod others;
 mod preorder;
 mod sorting;
 
-pub use mixing::{MULTIPLIER_LIMIT, multipliers, picked, terms, weighed};
+pub use mixing::{MULTIPLIER_LIMIT, mix, mixed, multipliers, picked, terms, weighed};
 pub use others::company;
 pub use preorder::tree;
 pub use sorting::layer;

@@ -1,8 +1,8 @@
 //! The multipliers of a leader's node.
 
-ghost use Rattle.std.specs.Prelude.{◌≡◌, ◌∷◌, ◌++◌, [], pos, map, All, slice_index_or, ◌<◌, ◌≤◌, length, IfOk};
+ghost use Rattle.std.specs.Prelude.{◌≡◌, ◌+◌, ◌∷◌, ◌++◌, [], pos, map, All, slice_index_or, ◌<◌, ◌≤◌, length, IfOk};
 ghost use Rattle.cert_base.specs.Rows.{terms_from};
-ghost use Rattle.comp_trees.specs.LeaderTree.{weighed_node, mix_by, mix_of_leader, company_of, mix_above};
+ghost use Rattle.comp_trees.specs.LeaderTree.{weighed_node, mix_over, mix_by, mix_of_leader, company_of, mix_above};
 
 use crate::others::company;
 use cert_base::{Node, Row, Term};
@@ -28,6 +28,49 @@ pub fn weighed(alloc: Global, multipliers: &[i64]) -> Result<Node, NoMemory>
     ensures { IfOk result (λ node. node ≡ weighed_node multipliers.now) }
 {
     Ok(Node::Linear(terms(alloc, multipliers)?))
+}
+
+/// Those of the base facts and the opened fact.
+fn front(alloc: Global, flows: &[i64], wrong: i64, opened: i64) -> Result<Vec<i64>, NoMemory>
+    ensures front { IfOk result (λ multipliers.
+        multipliers.items ≡ (flows.now ++ pos 0 ∷ pos 0 ∷ wrong ∷ []) ++ opened ∷ []) }
+    ensures len { IfOk result (λ multipliers. length multipliers.items ≡ length flows.now + 4) }
+{
+    let mut multipliers = Vec::from_slice(alloc, flows)?;
+    multipliers.extend_from_slice(&[0, 0, wrong])?;
+    multipliers.extend_from_slice(&[opened])?;
+    Ok(multipliers)
+}
+
+/// The multipliers of the base facts, of the opened predicate, and of the facts after it.
+pub fn mix(
+    alloc: Global,
+    flows: &[i64],
+    wrong: i64,
+    opened: i64,
+    own: &[i64],
+) -> Result<Vec<i64>, NoMemory>
+    ensures mix { IfOk result (λ multipliers. multipliers.items ≡ mix_over flows.now wrong opened own.now) }
+    ensures len { IfOk result (λ multipliers. length multipliers.items ≡ length flows.now + 4 + length own.now) }
+{
+    let mut multipliers = front(alloc, flows, wrong, opened)?;
+    multipliers.extend_from_slice(own)?;
+    Ok(multipliers)
+}
+
+/// The node that they close.
+pub fn mixed(
+    alloc: Global,
+    flows: &[i64],
+    wrong: i64,
+    opened: i64,
+    own: &[i64],
+) -> Result<Node, NoMemory>
+    requires { length flows.now + 4 + length own.now ≤ MULTIPLIER_LIMIT }
+    ensures { IfOk result (λ node. node ≡ weighed_node (mix_over flows.now wrong opened own.now)) }
+{
+    let multipliers = mix(alloc, flows, wrong, opened, own)?;
+    weighed(alloc, multipliers.as_slice())
 }
 
 /// The multipliers of the facts above the node of a leader that is present.
@@ -99,9 +142,7 @@ fn above(
 ) -> Result<Vec<i64>, NoMemory>
     ensures { IfOk result (λ multipliers. multipliers.items ≡ mix_above flows.now wrong opened leader) }
 {
-    let mut multipliers = Vec::from_slice(alloc, flows)?;
-    multipliers.extend_from_slice(&[0, 0, wrong])?;
-    multipliers.extend_from_slice(&[opened])?;
+    let mut multipliers = front(alloc, flows, wrong, opened)?;
     multipliers.extend_from_slice(&[0])?;
     let none = vec![in alloc; 0i64; usize::from(leader)]?;
     multipliers.extend_from_slice(none.as_slice())?;

@@ -37,7 +37,7 @@ fn bundle_of_value(alloc: Global, value: &Option<Value>) -> Result<Bundle, Stop>
 
 /// A bundle of which no leaf has goals, or one of which some do.
 #[derive(Drop)]
-pub(crate) enum AnyBundle {
+pub enum AnyBundle {
     Plain(Bundle),
     Stable(StableBundle),
 }

@@ -17,6 +17,7 @@ mod show;
 mod start;
 mod table;
 
+pub use bundle::AnyBundle;
 pub use demo::{Case, PendingDemo, make_demo};
 pub use play::MEETINGS_LINE;
 pub use prepared::{PendingRun, Prepared, Setting};

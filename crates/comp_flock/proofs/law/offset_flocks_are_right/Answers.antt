@@ -13,7 +13,7 @@ returns-clause-right c = λ coefs bound k spare is room. record {
 }
 
 pub returns-clause-least : goal.returns-clause-least
-returns-clause-least c = λ coefs bound k sum e. (offset_found coefs bound k sum.some sum.few e, offset_least coefs bound k e)
+returns-clause-least c = λ coefs bound k sum e. (offset_found coefs bound k sum e, offset_least coefs bound k e)
 
 pub returns-clause-every : goal.returns-clause-every
 returns-clause-every c = λ coefs bound are l. offset_every coefs bound are l

@@ -5,7 +5,7 @@ use Rattle.std.proofs.lemmas.Int.{to_z-of_z}
 use Rattle.std.proofs.lemmas.Result.{IfOk-weaker}
 use Rattle.pop_net.specs.LeafModel.{LeafModel, IsLeaf}
 use Rattle.pop_net.specs.Reaction.{Differ}
-use Rattle.comp_flock.specs.FlockLeaf.{says_enough, enough_for, flock_output, bit_states, all_offset_helpers}
+use Rattle.comp_flock.specs.FlockLeaf.{says_enough, enough_for, flock_start, flock_output, bit_states, all_offset_helpers}
 use Rattle.comp_flock.proofs.Formed.{leaf-as, offset-formed}
 use Rattle.comp_flock.proofs.SingleMoves.{moves-single}
 use Rattle.comp_flock.proofs.leaf.flock_leaf.Goals as goal
@@ -17,11 +17,12 @@ of_valid-requires c =
     let bound = c.args.bound in
     let k = c.args.power in
     let says = c.says_enough.ensures ∙ ap says_enough same in
-    let missing = c.missing-missing.ensures ∙ ap (λ m. 2 ^ k - m) (c.enough_for.ensures ∙ ap enough_for same) in
-    let is = leaf-as c.args.coefs.now (says_enough bound) k c.in_ok-names.names c.from_vec-moves.result c.from_vec-inputs.result c.from_vec-outputs.result (all_offset_helpers bound k c.args.spare) c.from_vec-helpers.result
+    let enough = c.enough_for-enough.ensures ∙ ap enough_for same in
+    let missing = c.missing-missing.ensures ∙ ap (λ m. 2 ^ k - m) enough in
+    let is = leaf-as c.args.coefs.now (says_enough bound) (enough_for bound) k c.in_ok-names.names c.from_vec-moves.result c.from_vec-inputs.result c.from_vec-outputs.result (all_offset_helpers bound k c.args.spare) c.from_vec-helpers.result
     c.in_ok-names.ensures
     (c.from_vec-moves.ensures ∙ c.in_ok-moves.ensures)
-    (c.from_vec-inputs.ensures ∙ c.in_ok-inputs.ensures)
+    (c.from_vec-inputs.ensures ∙ c.in_ok-inputs.ensures ∙ ap (λ n. map (flock_start n k) c.args.coefs.now) enough)
     (c.from_vec-outputs.ensures ∙ c.in_ok-outputs.ensures ∙ ap (λ s. map (flock_output s k) (range_with_len 0 (k + 2))) says)
     (c.from_vec-helpers.ensures ∙ c.in_ok-helpers.ensures ∙ ap (λ n. bit_states n k ++ replicate c.args.spare 0) missing) in
     subst IsLeaf (sym is) (offset-formed c.args.coefs.now bound k c.args.spare c.requires.offset c.requires.room)
@@ -33,11 +34,12 @@ returns c =
     let bound = c.args.bound in
     let k = c.args.power in
     let says = c.says_enough.ensures ∙ ap says_enough same in
-    let missing = c.missing-missing.ensures ∙ ap (λ m. 2 ^ k - m) (c.enough_for.ensures ∙ ap enough_for same) in
-    let is = leaf-as c.args.coefs.now (says_enough bound) k c.in_ok-names.names c.from_vec-moves.result c.from_vec-inputs.result c.from_vec-outputs.result (all_offset_helpers bound k c.args.spare) c.from_vec-helpers.result
+    let enough = c.enough_for-enough.ensures ∙ ap enough_for same in
+    let missing = c.missing-missing.ensures ∙ ap (λ m. 2 ^ k - m) enough in
+    let is = leaf-as c.args.coefs.now (says_enough bound) (enough_for bound) k c.in_ok-names.names c.from_vec-moves.result c.from_vec-inputs.result c.from_vec-outputs.result (all_offset_helpers bound k c.args.spare) c.from_vec-helpers.result
     c.in_ok-names.ensures
     (c.from_vec-moves.ensures ∙ c.in_ok-moves.ensures)
-    (c.from_vec-inputs.ensures ∙ c.in_ok-inputs.ensures)
+    (c.from_vec-inputs.ensures ∙ c.in_ok-inputs.ensures ∙ ap (λ n. map (flock_start n k) c.args.coefs.now) enough)
     (c.from_vec-outputs.ensures ∙ c.in_ok-outputs.ensures ∙ ap (λ s. map (flock_output s k) (range_with_len 0 (k + 2))) says)
     (c.from_vec-helpers.ensures ∙ c.in_ok-helpers.ensures ∙ ap (λ n. bit_states n k ++ replicate c.args.spare 0) missing) in
     IfOk-weaker c.of_valid.result _ _

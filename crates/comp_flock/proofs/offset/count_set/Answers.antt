@@ -12,7 +12,7 @@ pub loop-q-preserved : goal.loop-q-preserved
 loop-q-preserved c =
     let some : 1 ≤ c.loop-q.q = omega arith in
     let more = counted-more c.args.n c.loop-q.q some in
-    let one = c.one_if-count.ensures.value ∙ ap {B = ℕ} (λ (b : Bool). if b then 1 else 0) c.is_set.ensures in
+    let one = c.one_if-count.ensures.value ∙ ap {B = ℕ} (λ (b : Bool). if b then 1 else 0) c.has.ensures in
     omega (arith, more, one, c.loop-q.invariant)
 
 pub returns-clause-few : goal.returns-clause-few

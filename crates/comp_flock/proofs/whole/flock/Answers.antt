@@ -2,10 +2,17 @@ use Rattle.std.proofs.Common.{◌∙◌, sym, subst, rules, w64, SFits}
 use Rattle.std.proofs.lemmas.Int.{to_z-of_z}
 use Rattle.std.proofs.lemmas.Result.{IfOk-weaker}
 use Rattle.comp_trees.specs.BuiltLeaf.{IsBuilt}
-use Rattle.comp_flock.specs.FlockLeaf.{HasSpareRoom, offset_leaf_of}
+use Rattle.comp_flock.specs.FlockLeaf.{IsOffset, HasSpareRoom, offset_leaf_of}
 use Rattle.comp_flock.specs.FlockProof.{offset_pred_of, offset_steps}
+use Rattle.comp_flock.proofs.Offsets.{flock-offset}
 use Rattle.comp_flock.proofs.Valid.{no-spare, flock-built}
 use Rattle.comp_flock.proofs.whole.flock.Goals as goal
+
+pub offset_flock-requires-clause-offset : goal.offset_flock-requires-clause-offset
+offset_flock-requires-clause-offset c =
+    let fits : SFits w64 c.bound_of_power.result = search rules in
+    let same = to_z-of_z w64 c.bound_of_power.result fits ∙ c.bound_of_power.ensures in
+    subst (λ z. IsOffset c.args.coefs.now z c.args.power) (sym same) (flock-offset c.args.coefs.now c.args.power c.requires)
 
 pub offset_flock-requires-clause-room : goal.offset_flock-requires-clause-room
 offset_flock-requires-clause-room c =
