@@ -42,9 +42,6 @@ MeetsOne count cases = (facts : List Fact) × Contains cases facts × MeetsAll c
 abbrev pub CoverFor : (leaf dead : LeafModel) → List (List Fact) → Type 0
 CoverFor leaf dead cases = (count : Valuation) → IsEndFor leaf dead count → MeetsOne count cases
 
-abbrev pub Cover : LeafModel → List (List Fact) → Type 0
-Cover leaf = CoverFor leaf leaf
-
 -- whatever is dead at the end
 abbrev pub CoverEach : LeafModel → List (List Fact) → Type 0
 CoverEach leaf cases = (dead : LeafModel) → CoverFor leaf dead cases

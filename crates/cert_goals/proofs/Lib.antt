@@ -6,3 +6,4 @@ pub mod Possible
 pub mod Ways
 pub mod Woken
 pub mod ValidGoals
+mod NoSets

@@ -1,5 +1,5 @@
 -- GoalLaws: the crowds of a goal are closed under every step, right, and reached.
-use Rattle.std.specs.Prelude.{◌≡◌, ℕ, ◌*◌, Bool, true, false, if◌then◌else◌, List, length, All, slice_index_or}
+use Rattle.std.specs.Prelude.{◌≡◌, ℕ, ◌*◌, Bool, true, false, if◌then◌else◌, List, [], length, All, slice_index_or}
 use Rattle.std.specs.List.Sorted.{IsPermutation}
 use Rattle.pres_ast.specs.PredTree.{PredTree}
 use Rattle.pres_ast.specs.PredModel.{PredModel, HasAtoms}
@@ -10,6 +10,7 @@ use Rattle.pop_net.specs.Step.{LeafStep}
 use Rattle.pop_net.specs.Reachable.{Reachable, ReachedWithin}
 use Rattle.cert_base.specs.declared.layer.Layer.{Layer}
 use Rattle.cert_base.specs.declared.proof.Goal.{Goal}
+use Rattle.cert_base.specs.FactsAndCases.{base_list, goal_list, sets_of}
 use Rattle.cert_base.specs.ProofBound.{layers_bound}
 use Rattle.cert_base.specs.ValidLayers.{moves_of_layers, ValidLayers}
 use Rattle.cert_goals.specs.SomeLayers.{layered}
@@ -70,3 +71,9 @@ ValidGoalsHold =
     → (counts : List ℕ) → IsInput (length leaf.inputs) (length leaf.helpers) counts
     → IsReachedGoal leaf (predicate_value p.tree counts) (goal_for on_true on_false (predicate_value p.tree counts))
     (leaf_input_crowd leaf counts)
+
+-- where a goal lists no set, the facts of its tree are those of a tree for terminal ends
+abbrev pub FactsWithoutSets : Type 0
+FactsWithoutSets =
+    (leaf : LeafModel) (p : PredModel) (value : Bool)
+    → goal_list leaf p value (sets_of leaf value []) ≡ base_list leaf p value

@@ -1,6 +1,6 @@
 //! The laws of goals.
 
-ghost use Rattle.cert_goals.specs.GoalLaws.{GoalsHold, ValidGoalsHold};
+ghost use Rattle.cert_goals.specs.GoalLaws.{GoalsHold, ValidGoalsHold, FactsWithoutSets};
 
 /// Where each end is within one of the sets, and each set stays: no step leaves the crowds of the goal, and in them the
 /// value is every agent's output. A theorem; the body is empty.
@@ -12,4 +12,9 @@ pub fn goals_hold()
 /// value, and outputs it for ever. A theorem; the body is empty.
 pub fn valid_goals_hold()
     ensures { ValidGoalsHold }
+{}
+
+/// Where a goal lists no set, the facts of its tree are `base_facts`. A theorem; the body is empty.
+pub fn facts_without_sets()
+    ensures { FactsWithoutSets }
 {}

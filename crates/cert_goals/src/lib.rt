@@ -1,5 +1,5 @@
 //! Goals: layers of some moves of a leaf, sets of states that stay once all agents are in them, and a tree.
-//! It stands on `pop_hushed`, `cert_layers` and `cert_tree`. A library so far: `check` doesn't call it yet.
+//! It stands on `pop_hushed`, `cert_layers` and `cert_tree`.
 //! The layer above uses: `check_goal` accepts exactly valid goals, and `valid_goals_hold` says what they give.
 #![tactic(auto)]
 
@@ -18,6 +18,6 @@ mod wake;
 
 pub use fault::{GoalWhy, SetFault};
 pub use goal::check_goal;
-pub use law::{goals_hold, valid_goals_hold};
+pub use law::{facts_without_sets, goals_hold, valid_goals_hold};
 pub use layers::check_some_layers;
 pub use sets::check_sets;

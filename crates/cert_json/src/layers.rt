@@ -110,11 +110,7 @@ impl ReadItem for Layers {
 }
 
 /// The member `layers`: at most `LAYER_LIMIT` layers.
-pub fn layers_of(
-    alloc: Global,
-    path: &Path<'_>,
-    value: &Value,
-) -> Result<List<Layer>, FormatFault>
+pub fn layers_of(alloc: Global, path: &Path<'_>, value: &Value) -> Result<List<Layer>, FormatFault>
     ensures { GivesRead (λ layers. layers) result
         (member_by (path_text path.now) (codes "layers") layers_at (view value.now)) }
 {

@@ -186,11 +186,7 @@ impl ReadItem for States {
 }
 
 /// At most `STATE_LIMIT` numbers of states that ascend.
-pub fn states_of(
-    alloc: Global,
-    path: &Path<'_>,
-    value: &Value,
-) -> Result<List<u16>, FormatFault>
+pub fn states_of(alloc: Global, path: &Path<'_>, value: &Value) -> Result<List<u16>, FormatFault>
     ensures { GivesRead (λ qs. qs) result (set_states_at (path_text path.now) (view value.now)) }
 {
     each_of(alloc, path, 0, STATE_LIMIT, &States, value)

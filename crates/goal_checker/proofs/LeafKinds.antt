@@ -12,7 +12,7 @@ use Rattle.cert_base.specs.ValidLayers.{moves_of_layers}
 use Rattle.cert_base.specs.FactsAndCases.{sets_of}
 use Rattle.cert_base.specs.StableProof.{pred_of_part}
 use Rattle.net_goals.specs.LeafGoals.{LeafPart, parts_bound}
-use Rattle.net_goals.specs.Kinds.{ValueGoal, LeafKind, Silent as FallsSilent, Stable as ComesToGoals, kind_bound, KindPart, part_of, parts_of}
+use Rattle.net_goals.specs.Kinds.{ValueGoal, Silent as FallsSilent, Stable as ComesToGoals, kind_bound, KindPart, part_of, parts_of}
 use Rattle.goal_checker.specs.ValidStable.{part_bound, predicate_alone}
 
 abbrev pub value_goal : LeafModel → Bool → Goal → ValueGoal

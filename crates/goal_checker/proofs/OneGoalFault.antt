@@ -1,6 +1,6 @@
 -- A goal that isn't valid has one first fault, and a valid one has none.
-use Rattle.std.proofs.Common.{◌≡◌, ℕ, Bool, List, [], refl, sym, ap, subst, ◌∙◌}
-use Rattle.std.specs.Prelude.{Some, None, Option, Err}
+use Rattle.std.proofs.Common.{◌≡◌, ℕ, Bool, List, [], refl, sym, ap, ◌∙◌}
+use Rattle.std.specs.Prelude.{Some, Err}
 use Rattle.pres_ast.specs.PredModel.{PredModel}
 use Rattle.pop_net.specs.LeafModel.{LeafModel}
 use Rattle.cert_base.specs.declared.fact.Fact.{Fact}
@@ -11,7 +11,7 @@ use Rattle.pop_io.specs.declared.failure.Failure.TheVariants.{Fault}
 use Rattle.cert_layers.proofs.Valid.{accepted}
 use Rattle.cert_tree.specs.declared.fault.TreeFault.{TreeFault}
 use Rattle.cert_tree.specs.declared.fault.TreeWhy.{TreeWhy}
-use Rattle.cert_tree.specs.Refusals.{first_for, IsFaultFor}
+use Rattle.cert_tree.specs.Refusals.{IsFaultFor}
 use Rattle.cert_tree.proofs.ClosedWalk.{ClosesFor-unrefused}
 use Rattle.cert_goals.specs.declared.fault.GoalWhy.{GoalWhy}
 use Rattle.cert_goals.specs.declared.fault.GoalWhy.TheVariants.{Layers, Set, Node}

@@ -1,6 +1,6 @@
 -- Sets that aren't good have one first fault, and good sets have none.
-use Rattle.std.proofs.Common.{◌≡◌, ◌⊎◌, inl, inr, ℕ, ◌<◌, ◌≤◌, Bool, List, Option, refl, sym, ap, subst, ◌∙◌, arith}
-use Rattle.std.specs.Prelude.{Some, slice_get, All}
+use Rattle.std.proofs.Common.{◌≡◌, ◌⊎◌, inl, inr, ℕ, ◌<◌, ◌≤◌, Bool, List, sym, ap, subst, ◌∙◌, arith}
+use Rattle.std.specs.Prelude.{Some, slice_get}
 use Rattle.std.proofs.lemmas.Bool.{cases_lt}
 use Rattle.pop_net.proofs.Quiet.{All-slice_get}
 use Rattle.pop_net.specs.LeafModel.{LeafModel}
@@ -8,7 +8,7 @@ use Rattle.cert_layers.specs.LayerFaults.{Each, IsFirstFailing}
 use Rattle.cert_goals.specs.declared.fault.SetFault.{SetFault}
 use Rattle.cert_goals.specs.declared.fault.SetFault.TheVariants.{Output, Leaves, Wakes}
 use Rattle.cert_goals.specs.Stays.{escapes, SleepsFor, IsGuarded, IsGuardedAt, SleepIn}
-use Rattle.cert_goals.specs.SetFaults.{HasOutput, IsGoodSet, AreGoodSets, IsFirstOther, IsLeft, IsBadBy, AreBadBy}
+use Rattle.cert_goals.specs.SetFaults.{HasOutput, IsGoodSet, AreGoodSets, IsFirstOther, IsBadBy, AreBadBy}
 use Rattle.pop_checker.proofs.OneFault.{one_first}
 
 module _ (leaf : LeafModel) (moves : List ℕ) (value : Bool) where

@@ -1,16 +1,12 @@
 -- A valid proof with goals shows that the net stably computes the predicate.
-use Rattle.std.proofs.Common.{◌≡◌, ℕ, Bool, true, false, List, length, map, Some, refl, sym, ap, subst, ◌∙◌}
-use Rattle.std.specs.Prelude.{slice_get}
+use Rattle.std.proofs.Common.{◌≡◌, ℕ, Bool, true, false, List, length, Some, sym, subst, ◌∙◌}
 use Rattle.pop_net.proofs.Quiet.{All-slice_get}
 use Rattle.pres_ast.specs.PredTree.{PredTree}
 use Rattle.pres_ast.specs.PredModel.{PredModel, HasAtoms}
-use Rattle.pres_ast.specs.PredicateValue.{predicate_value}
 use Rattle.pop_net.specs.LeafModel.{LeafModel, IsLeaf}
 use Rattle.pop_net.specs.NetModel.{NetModel, IsNet, combined}
-use Rattle.pop_net.specs.InputCrowd.{leaf_input_crowd, IsInput}
-use Rattle.cert_base.specs.declared.proof.LeafProof.{LeafProof}
+use Rattle.pop_net.specs.InputCrowd.{leaf_input_crowd}
 use Rattle.cert_base.specs.declared.proof.Goal.{Goal}
-use Rattle.cert_base.specs.declared.stable.LeafGoals.{LeafGoals}
 use Rattle.cert_base.specs.declared.stable.StablePart.{StablePart}
 use Rattle.cert_base.specs.declared.stable.StablePart.TheVariants.{Silent, Stable}
 use Rattle.cert_base.specs.declared.stable.StableProof.{StableProof}
@@ -20,11 +16,11 @@ use Rattle.cert_goals.specs.ValidGoal.{ValidGoal}
 use Rattle.cert_goals.specs.GoalLaws.{IsReachedGoal, goal_for}
 use Rattle.cert_goals.proofs.ValidGoals.{all_valid_hold}
 use Rattle.pop_checker.proofs.RightEnds.{closes_right}
-use Rattle.net_goals.specs.LeafGoals.{LeafPart, parts_bound, PartsCombineTo}
-use Rattle.net_goals.specs.Kinds.{ValueGoal, KindPart, HoldsFrom, HoldsAt, ComesToRest, parts_of, ComeToRest}
+use Rattle.net_goals.specs.LeafGoals.{PartsCombineTo}
+use Rattle.net_goals.specs.Kinds.{KindPart, HoldsFrom, HoldsAt, ComesToRest, parts_of, ComeToRest}
 use Rattle.net_goals.specs.StablyRight.{IsStablyRight}
 use Rattle.net_goals.proofs.EitherKind.{mixed_right}
-use Rattle.goal_checker.specs.ValidStable.{ValidPart, predicate_alone, stable_bound, ValidStableProof}
+use Rattle.goal_checker.specs.ValidStable.{ValidPart, ValidStableProof}
 use Rattle.goal_checker.specs.StableSound.{AreStablePreds, IsStablySound}
 use Rattle.goal_checker.proofs.LeafKinds.{value_goal, kind_of, kinds_of, kinds_length, kind_at, kinds_bound, kinds_trees}
 

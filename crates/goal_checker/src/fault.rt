@@ -10,9 +10,5 @@ pub enum StableRejected {
     /// The proof of a leaf that falls silent, or the predicate.
     Plain(Rejected),
     /// The goal of a leaf for this value of its predicate.
-    Goal {
-        leaf: u8,
-        value: bool,
-        why: GoalWhy,
-    },
+    Goal { leaf: u8, value: bool, why: GoalWhy },
 }

@@ -2,7 +2,6 @@
 
 ghost use Rattle.std.specs.Prelude.{◌≡◌, ◌≤◌, ◌*◌, length, true, false, IfOk, OnOk};
 ghost use Rattle.pop_io.specs.Failures.{IfFault, OnlyMemory};
-ghost use Rattle.pres_ast.specs.PredModel.{PredModel};
 ghost use Rattle.cert_base.specs.ProofLimits.{IsGoalWithin};
 ghost use Rattle.cert_base.specs.ProofBound.{layers_bound};
 ghost use Rattle.cert_base.specs.StableProof.{pred_of_part, AreGoalsWithin, IsPartWithin};

@@ -1,6 +1,6 @@
 //! The predicates of a proof's leaves.
 
-ghost use Rattle.std.specs.Prelude.{◌≡◌, IfOk, map};
+ghost use Rattle.std.specs.Prelude.{◌≡◌, IfOk};
 ghost use Rattle.goal_checker.specs.ValidStable.{predicate_alone, predicates_alone};
 
 use cert_base::{LeafGoals, LeafProof, Proof, StablePart, StableProof};

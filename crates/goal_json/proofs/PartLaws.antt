@@ -10,7 +10,6 @@ use Rattle.json_shape.proofs.Readers
 use Rattle.json_shape.proofs.Fresh.{EachFrom-All, All-EachFrom}
 use Rattle.pres_ast.specs.PredModel.{PredModel}
 use Rattle.cert_base.specs.declared.proof.Goal.{Goal}
-use Rattle.cert_base.specs.declared.proof.LeafProof.{LeafProof}
 use Rattle.cert_base.specs.declared.stable.LeafGoals.{LeafGoals}
 use Rattle.cert_base.specs.declared.stable.StablePart.{StablePart}
 use Rattle.cert_base.specs.declared.stable.StablePart.TheVariants.{Silent, Stable}

@@ -5,7 +5,7 @@ use Rattle.serde_json.specs.Data.{Data}
 use Rattle.json_shape.specs.Parts.{AreItems}
 use Rattle.json_shape.specs.Shapes.{listed}
 use Rattle.pop_io.specs.declared.names.TheConstants.{VARIABLE_LIMIT}
-use Rattle.pres_ast.specs.PredModel.{PredModel, HasAtoms}
+use Rattle.pres_ast.specs.PredModel.{HasAtoms}
 use Rattle.pop_net.specs.NetModel.{IsNet}
 use Rattle.cert_base.specs.declared.stable.StablePart.{StablePart}
 use Rattle.cert_base.specs.declared.stable.StablePart.TheVariants.{Silent, Stable}

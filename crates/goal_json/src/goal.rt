@@ -40,15 +40,18 @@ impl ReadItem for Sets {
 }
 
 /// The member `sets`: at most `SET_LIMIT` sets, none where it is missing.
-fn sets_of(
-    alloc: Global,
-    path: &Path<'_>,
-    value: &Value,
-) -> Result<List<List<u16>>, FormatFault>
+fn sets_of(alloc: Global, path: &Path<'_>, value: &Value) -> Result<List<List<u16>>, FormatFault>
     ensures { GivesRead (λ sets. sets) result (sets_at (path_text path.now) (view value.now)) }
 {
     match value.get("sets") {
-        Some(sets) => each_of(alloc, &Path::Member(path, "sets"), 0, SET_LIMIT, &Sets, sets),
+        Some(sets) => each_of(
+            alloc,
+            &Path::Member(path, "sets"),
+            0,
+            SET_LIMIT,
+            &Sets,
+            sets,
+        ),
         None => Ok(List::from_vec(Vec::new(alloc))),
     }
 }
@@ -70,11 +73,7 @@ fn goal_of(alloc: Global, path: &Path<'_>, value: &Value) -> Result<Goal, Format
 
 /// A list of two goals.
 #[tactic(auto, unfolding(crate::specs::Examined::both_goals_at))]
-fn both_goals(
-    alloc: Global,
-    path: &Path<'_>,
-    value: &Value,
-) -> Result<(Goal, Goal), FormatFault>
+fn both_goals(alloc: Global, path: &Path<'_>, value: &Value) -> Result<(Goal, Goal), FormatFault>
     ensures { GivesRead (λ goals. goals) result (both_goals_at (path_text path.now) (view value.now)) }
 {
     let (on_true, on_false) = pair_of(alloc, path, value)?;

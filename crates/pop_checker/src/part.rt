@@ -41,7 +41,12 @@ pub fn check_part(
     Ok(bound)
 }
 
-fn check_order(alloc: Global, leaf: &Leaf, number: u8, part: &LeafProof) -> Result<u64, Failure<Rejected>>
+fn check_order(
+    alloc: Global,
+    leaf: &Leaf,
+    number: u8,
+    part: &LeafProof,
+) -> Result<u64, Failure<Rejected>>
     requires few { length part.now.layers ≤ LAYER_LIMIT }
     requires within { All IsLayerWithin part.now.layers }
     ensures valid { IfOk result (λ bound. ValidLayers leaf.now part.now.layers) }
@@ -52,10 +57,7 @@ fn check_order(alloc: Global, leaf: &Leaf, number: u8, part: &LeafProof) -> Resu
 {
     match check_layers(alloc, leaf, &part.layers) {
         Ok(bound) => Ok(bound),
-        Err(Failure::Fault(why)) => Err(Failure::Fault(Rejected::Layers {
-            leaf: number,
-            why,
-        })),
+        Err(Failure::Fault(why)) => Err(Failure::Fault(Rejected::Layers { leaf: number, why })),
         Err(Failure::NoMemory) => Err(Failure::NoMemory),
     }
 }

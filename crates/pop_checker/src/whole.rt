@@ -20,7 +20,12 @@ use pres_ast::Pred;
 use std::alloc::Global;
 
 /// Whether a proof is valid for a net and a predicate (Blondin, Esparza, Jaax, Meyer 2017).
-pub fn check(alloc: Global, net: Net, pred: Pred, proof: &Proof) -> Result<Checked, Failure<Rejected>>
+pub fn check(
+    alloc: Global,
+    net: Net,
+    pred: Pred,
+    proof: &Proof,
+) -> Result<Checked, Failure<Rejected>>
     requires variables { pred.variables ≡ length net.variables }
     requires within { IsProofWithin (length net.variables) (length net.leaves) proof.now }
     ensures { Checks net pred proof.now result }

@@ -1,6 +1,5 @@
 -- Lines of bundles with goals and without.
-use Rattle.std.proofs.Common.{◌≡◌, ℕ, Bool, true, false, List, Option, Some, None, Result, Ok, Err, refl, sym, ap, subst, ◌∙◌}
-use Rattle.std.specs.Prelude.{if◌then◌else◌}
+use Rattle.std.proofs.Common.{◌≡◌, ℕ, Bool, true, false, List, Some, None, Result, Ok, Err, refl, sym, ap, subst, ◌∙◌}
 use Rattle.serde_json.specs.Data.{Data}
 use Rattle.json_shape.specs.Faults.{Fault}
 use Rattle.cert_json.specs.declared.bundle.Bundle.{Bundle}
@@ -16,12 +15,8 @@ use Rattle.tool_commands.specs.declared.bundle.AnyBundle.{AnyBundle}
 use Rattle.tool_commands.specs.declared.bundle.AnyBundle.TheVariants.{Plain, Stable}
 use Rattle.tool_commands.specs.Start.{formatted}
 use Rattle.tool_commands.specs.Bundles.{bundle_in, IsBundleOf}
-use Rattle.tool_commands.specs.StableBundles.{stable_in, any_stable, any_plain, any_bundle_in, IsAnyBundleOf}
+use Rattle.tool_commands.specs.StableBundles.{any_stable, any_plain, any_bundle_in, IsAnyBundleOf}
 use Rattle.tool_commands.specs.Check.{OfBundle, OfAnyBundle, OfLine}
-
--- the value of a line with such a bundle
-abbrev Gives : List ℕ → Data → Result AnyBundle Refusal → Type 0
-Gives line d bundle = HasValue line (Some d) × (any_bundle_in (Some d) ≡ bundle)
 
 pub of_plain : (d : Data) → has_goals d ≡ false → any_bundle_in (Some d) ≡ any_plain d
 unfolding any_bundle_in

@@ -149,9 +149,10 @@ impl Output {
     ) -> Result<Output, AllocError>
         ensures { IfOk result (λ output. output ≡ stable_rejection_output rejected) }
     {
-        let rejected = StableRejection(rejected);
-        let text = format!(in alloc; "{rejected}\n")?;
-        Ok(Output::new(text.into_bytes(), Ending::Rejected))
+        let line = StableRejection(rejected);
+        let text = format!(in alloc; "{line}\n")?;
+        let ending = Ending::Rejected;
+        Ok(Output::new(text.into_bytes(), ending))
     }
 
     /// What is written for a proof that is not valid: the line that names the first part that fails.

@@ -1,4 +1,4 @@
-use Rattle.std.proofs.Common.{◌≡◌, ℕ, Ok, Some, None, Result, refl, ap, subst}
+use Rattle.std.proofs.Common.{ℕ, Ok, Some, None, Result, refl, ap, subst}
 use Rattle.goal_checker.specs.ValidStable.{stable_bound}
 use Rattle.tool_texts.specs.declared.refusal.Refusal.{Refusal}
 use Rattle.tool_texts.specs.declared.output.Output.{Output}
@@ -14,9 +14,8 @@ returns-in-Ok c =
     (subst (λ (n : ℕ). let given : Result Output Refusal = Ok (stable_output n) in GivesStep (λ (o : Output). o) c.stable.result given) c.in-Ok.ensures.bound c.stable.ensures)
 
 pub returns-in-Err-Fault : goal.returns-in-Err-Fault
-returns-in-Err-Fault c =
-    (
-      Some c.in-Err-Fault.rejected,
-      rw c.in-Err-Fault.field-0-is at c.in-Err-Fault.ensures.fault,
-      ap (λ (o : Output). (let made : Result Output Refusal = Ok o in made)) (rw c.in-Err-Fault.rejected-is at c.in_ok-of_stable_rejection-in-Err-Fault.ensures),
-    )
+returns-in-Err-Fault c = (
+  Some c.in-Err-Fault.rejected,
+  rw c.in-Err-Fault.field-0-is at c.in-Err-Fault.ensures.fault,
+  ap (λ (o : Output). (let made : Result Output Refusal = Ok o in made)) (rw c.in-Err-Fault.rejected-is at c.in_ok-of_stable_rejection-in-Err-Fault.ensures),
+)
