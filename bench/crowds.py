@@ -5,7 +5,8 @@
 Run from anywhere: /usr/bin/python3 bench/crowds.py [--short] [--write]. With --write the table goes into
 docs/develop/performance.md; --kept puts the one there that bench/results/crowds.txt has, and measures nothing.
 Both are measured in one run, in seconds of a processor, of one run each. Where the plain one would make more than MOST
-meetings, it makes so many, and its time for all is reckoned from these: `~` stands before it.
+meetings, it makes so many, and its time for all is reckoned from these: `~` stands before it. If `simulate` took over
+PATIENCE seconds, the protocol isn't tried with more agents.
 """
 
 from __future__ import annotations
@@ -24,6 +25,7 @@ from hurleyoak.protocol.reactions import Reactions  # noqa: E402
 from hurleyoak.text.files import load, load_path  # noqa: E402
 
 MOST = 20_000_000  # meetings of the plain simulator in one run
+PATIENCE = 30  # seconds of a processor
 SIZES = [10**3, 10**4] if IS_SHORT else [10**k for k in range(3, 10)]
 SEED = 1
 KEPT = TOP / "bench/results/crowds.txt"
@@ -102,8 +104,8 @@ def spelled(seconds: float) -> str:
     return f"{seconds:,.0f}" if seconds >= 10 else f"{seconds:.2g}" if seconds >= 0.001 else "0.001"
 
 
-def row(program: str, path: str, share: float | None, n: int) -> list[str]:
-    """The figures of one protocol at one size."""
+def row(program: str, path: str, share: float | None, n: int) -> tuple[list[str], float]:
+    """The figures of one protocol at one size, and the seconds of `simulate`."""
     source = path if "\n" in path else str(TOP / path)
     names = (load(source, "a") if "\n" in source else load_path(source)).net.names
     first = 1 if share is None else round(share * n)
@@ -114,16 +116,21 @@ def row(program: str, path: str, share: float | None, n: int) -> list[str]:
         f"{value:.{digits}e}".replace("e+0", "e").replace("e+", "e")
         for value, digits in ((n, 0), (meetings, 1), (changes, 1))
     ]
-    return [*sizes, spelled(seconds) + ("" if done else ", stopped"), ("~" if is_cut else "") + spelled(slow)]
+    return [*sizes, spelled(seconds) + ("" if done else ", stopped"), ("~" if is_cut else "") + spelled(slow)], seconds
 
 
 def lines_of(program: str) -> list[str]:
     """The rows of the table, the small sizes first; each is kept as soon as it is there."""
     found: dict[tuple[str, int], list[str]] = {}
     lines: list[str] = []
+    slow: set[str] = set()
     for n in SIZES:
         for name, path, share in PROTOCOLS:
-            found[name, n] = row(program, path, share, n)
+            if name in slow:
+                continue
+            found[name, n], seconds = row(program, path, share, n)
+            if seconds > PATIENCE:
+                slow.add(name)
             print(" | ".join([name, *found[name, n]]), flush=True)
             lines = []
             for one, _, _ in PROTOCOLS:
