@@ -1,5 +1,5 @@
 -- The order in which a bundle and a crowd line are examined, what they are, and what a valid proof in a bundle shows.
-use Rattle.std.proofs.Common.{ℕ, List, Some, Ok, refl, sym, subst}
+use Rattle.std.proofs.Common.{◌≡◌, ℕ, List, Some, Ok, refl, sym, subst}
 use Rattle.serde_json.specs.Data.{Data}
 use Rattle.cert_base.specs.ProofBound.{proof_bound}
 use Rattle.cert_json.specs.declared.bundle.Bundle.{Bundle}
@@ -14,6 +14,13 @@ use Rattle.tool_texts.proofs.Goes.{bind_ok, same_ok}
 use Rattle.tool_commands.specs.Start.{fitting_in}
 use Rattle.tool_commands.specs.Bundles.{bundle_in, begun, IsBegunBy}
 use Rattle.tool_commands.proofs.Certified.{some_value}
+use Rattle.tool_commands.specs.declared.bundle.AnyBundle.{AnyBundle}
+use Rattle.tool_commands.specs.declared.bundle.AnyBundle.TheVariants.{Plain, Stable}
+use Rattle.tool_commands.specs.StableBundles.{any_bundle_in, net_of, any_begun, IsAnyBundleOf, IsAnyBegunBy}
+use Rattle.tool_commands.proofs.AnyBundles.{plain_value, stable_value}
+use Rattle.goal_json.specs.declared.bundle.StableBundle.{StableBundle}
+use Rattle.goal_json.proofs.StableLaws.{bundle_takes as stable_takes}
+use Rattle.pop_tool.specs.StableHeadline.{IsStableInput}
 use Rattle.pop_tool.specs.Headline.{IsBundleInput, HasValidProof}
 
 pub begins_input : (first second : List ℕ) (bundle : Bundle) (counts : List ℕ) → IsBegunBy first second (Ok (bundle, counts)) → IsBundleInput first second bundle counts
@@ -35,6 +42,32 @@ pub input_begins : (first second : List ℕ) (bundle : Bundle) (counts : List �
 unfolding begun
 input_begins first second bundle counts input =
     (Some input.value, input.reads, rw (bundle_again input.value bundle input.file, input.fits) refl)
+
+-- the same if the bundle may have goals
+record IsAnyInput (first second : List ℕ) (bundle : AnyBundle) (counts : List ℕ) : Type 0 where
+  of_line : IsAnyBundleOf first (Ok bundle)
+  fits : fitting_in (net_of bundle) second ≡ Ok counts
+
+any_input : (first second : List ℕ) (bundle : AnyBundle) (counts : List ℕ) → IsAnyBegunBy first second (Ok (bundle, counts)) → IsAnyInput first second bundle counts
+unfolding any_begun
+any_input first second bundle counts begins =
+    let value = begins.0 in
+    let b = bind_ok (any_bundle_in value) (λ b. fitting_in (net_of b) second >>= λ c. Ok (b, c)) (bundle, counts) (sym begins.2) in
+    let c = bind_ok (fitting_in (net_of b.0) second) (λ c. Ok (b.0, c)) (bundle, counts) b.2 in
+    subst (λ (x : AnyBundle × List ℕ). IsAnyInput first second x.0 x.1) (same_ok (b.0, c.0) (bundle, counts) c.2)
+    (record { of_line = (value, begins.1, sym b.1); fits = c.1 })
+
+pub plain_input : (first second : List ℕ) (bundle : Bundle) (counts : List ℕ) → IsAnyBegunBy first second (Ok (Plain bundle, counts)) → IsBundleInput first second bundle counts
+plain_input first second bundle counts begins =
+    let any = any_input first second (Plain bundle) counts begins in
+    let value = plain_value first bundle any.of_line in
+    record { value = value.value; reads = value.reads; file = bundle_takes value.value bundle value.read; fits = any.fits }
+
+pub stable_input : (first second : List ℕ) (bundle : StableBundle) (counts : List ℕ) → IsAnyBegunBy first second (Ok (Stable bundle, counts)) → IsStableInput first second bundle counts
+stable_input first second bundle counts begins =
+    let any = any_input first second (Stable bundle) counts begins in
+    let value = stable_value first bundle any.of_line in
+    record { value = value.value; reads = value.reads; goals = value.goals; file = stable_takes value.value bundle value.read; fits = any.fits }
 
 -- the net of a file whose proof is valid computes the predicate
 pub file_right : (bundle : Bundle) (d : Data) → IsBundleFile bundle d → HasValidProof bundle → IsRight bundle.net bundle.pred bundle.proof

@@ -10,7 +10,6 @@ use Rattle.pop_crowd.specs.Crowds.{input_size}
 use Rattle.pop_words.specs.Counts.{entry_of, with_entry, with_word, with_words, counts_behind, with_zeros, counts_of}
 use Rattle.tool_texts.specs.declared.refusal.Refusal.{Refusal}
 use Rattle.tool_texts.specs.declared.refusal.Refusal.TheVariants.{Size}
-use Rattle.tool_texts.specs.Steps.{◌>>=◌}
 use Rattle.tool_texts.proofs.Goes.{bind_ok, same_ok}
 use Rattle.tool_commands.specs.Eval.{counted}
 use Rattle.tool_commands.specs.Start.{is_size, sized, fitting_in}

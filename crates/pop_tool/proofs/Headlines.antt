@@ -1,6 +1,6 @@
 -- What an answer says of a protocol.
 use Rattle.std.proofs.Common.{◌≡◌, ℕ, List, ◌++◌, Option, Some, Result, Ok, sym, ap, subst, ◌∙◌}
-use Rattle.std.specs.Prelude.{◌↔◌}
+use Rattle.std.specs.Prelude.{◌↔◌, ◌⊎◌}
 use Rattle.std.specs.Io.KnownBytes.{Appends}
 use Rattle.std.proofs.lemmas.List.{append_cancel_left}
 use Rattle.pop_lines.specs.Lines.{ended}
@@ -22,7 +22,7 @@ use Rattle.tool_texts.specs.Statuses.{status_of}
 use Rattle.tool_texts.specs.Refusals.{output_for}
 use Rattle.tool_commands.specs.Check.{certified_text, stable_text}
 use Rattle.goal_json.specs.declared.bundle.StableBundle.{StableBundle}
-use Rattle.pop_tool.specs.StableHeadline.{IsStableLine, StableSays, IsValidStableLine}
+use Rattle.pop_tool.specs.StableHeadline.{IsStableLine, StableSays, IsValidStableLine, SettledSays}
 use Rattle.pop_tool.proofs.StableHeadline.{stable_says, stable_only}
 use Rattle.tool_commands.specs.Replay.{holds_text, holds_output}
 use Rattle.pop_tool.specs.Answer.{InputGives, Answer}
@@ -102,10 +102,10 @@ module _ (words : List (List ℕ)) (input : List ℕ) (output : Output) (answer 
       let a = given Succinct is in
       subst (λ (o : Output). CompileSays leaves.Succinct input o.text) (sym a.2) (compile_says leaves.Succinct input a.0 a.1 (subst (λ (o : Output). status_of o.ending ≡ Done) a.2 done))
 
-  settle_headline : meaning_of words ≡ Ok Settle → status_of output.ending ≡ Done → SettleSays input output.text
+  settle_headline : meaning_of words ≡ Ok Settle → status_of output.ending ≡ Done → SettleSays input output.text ⊎ SettledSays input output.text
   settle_headline is done =
       let a = given Settle is in
-      subst (λ (o : Output). SettleSays input o.text) (sym a.2) (settle_says input a.0 a.1 (subst (λ (o : Output). status_of o.ending ≡ Done) a.2 done))
+      subst (λ (o : Output). SettleSays input o.text ⊎ SettledSays input o.text) (sym a.2) (settle_says input a.0 a.1 (subst (λ (o : Output). status_of o.ending ≡ Done) a.2 done))
 
   answer_says : Headline words input output.text (status_of output.ending)
   answer_says =

@@ -1,5 +1,5 @@
 -- A journal that is read and holds is the text of a run, and no other text is.
-use Rattle.std.proofs.Common.{◌≡◌, ℕ, ◌*◌, ◌≤◌, Bool, List, ◌∷◌, ◌++◌, codes, length, Ok, refl, sym, ap, subst, ◌∙◌, arith}
+use Rattle.std.proofs.Common.{◌≡◌, ℕ, ◌*◌, ◌≤◌, Bool, List, ◌∷◌, ◌++◌, codes, length, Ok, sym, ap, subst, ◌∙◌, arith}
 use Rattle.std.specs.Prelude.{All}
 use Rattle.pop_lines.specs.Lines.{lines_of}
 use Rattle.pres_ast.specs.PredicateValue.{predicate_value}
@@ -21,7 +21,6 @@ use Rattle.pop_words.specs.Kinds.{most_workers_of}
 use Rattle.pop_words.specs.Options.{IsWithinLimits}
 use Rattle.pair_workers.specs.Run.{joined}
 use Rattle.pair_workers.specs.WatchedRun.{IsRunOf}
-use Rattle.pop_journal.specs.declared.journal.Journal.{Journal}
 use Rattle.pop_journal.specs.declared.last.Last.{Last}
 use Rattle.pop_journal.specs.Journal.{run_line, round_lines, journal_text}
 use Rattle.pop_journal.specs.Ending.{ending_of}

@@ -49,7 +49,7 @@ use Rattle.comp_net.specs.declared.choice.LeafChoice.TheVariants as leaves
 use Rattle.tool_commands.specs.Settle.{settle_text}
 use Rattle.tool_commands.specs.Compile.{bundle_line, IsCompiled}
 use Rattle.pop_tool.specs.Outcome.{IsAnswered}
-use Rattle.pop_tool.specs.StableHeadline.{IsStableLine, StableSays, IsValidStableLine}
+use Rattle.pop_tool.specs.StableHeadline.{IsStableLine, StableSays, IsValidStableLine, SettledSays}
 use Rattle.goal_json.specs.declared.bundle.StableBundle.{StableBundle}
 
 -- the input, within its limit, is one line, which is the file of this bundle
@@ -220,7 +220,8 @@ pub record Headline (words : List (List ℕ)) (input text : List ℕ) (status : 
   pub compile : meaning_of words ≡ Ok Compile → status ≡ Done → CompileSays leaves.Plain input text
   pub flocks : meaning_of words ≡ Ok Flocks → status ≡ Done → CompileSays leaves.Flocks input text
   pub succinct : meaning_of words ≡ Ok Succinct → status ≡ Done → CompileSays leaves.Succinct input text
-  pub settle : meaning_of words ≡ Ok Settle → status ≡ Done → SettleSays input text
+  -- the second for a bundle of which some leaf has goals
+  pub settle : meaning_of words ≡ Ok Settle → status ≡ Done → SettleSays input text ⊎ SettledSays input text
   -- `holds`, with any number, is printed exactly for a journal of a run of the kind with this many meetings
   pub replay : meaning_of words ≡ Ok Replay → (k : ℕ) → SaysHolds k text status ↔ IsHeldInput Whole input k
   pub replay_watched : meaning_of words ≡ Ok ReplayWatched → (k : ℕ)

@@ -1,16 +1,27 @@
 -- StableHeadline: what a text printed for a bundle with goals says of a protocol.
-use Rattle.std.specs.Prelude.{◌≡◌, ◌↔◌, ◌≤◌, ℕ, true, List, [], ◌∷◌, length, Some}
+use Rattle.std.specs.Prelude.{◌≡◌, ◌↔◌, ◌≤◌, ℕ, true, List, [], ◌∷◌, length, Some, Ok}
 use Rattle.serde_json.specs.Data.{Data}
 use Rattle.pop_io.specs.declared.whole.TheConstants.{INPUT_LIMIT}
 use Rattle.pop_lines.specs.Lines.{lines_of, ended}
+use Rattle.pres_ast.specs.PredicateValue.{predicate_value}
+use Rattle.pop_net.specs.NetModel.{CrowdModel}
+use Rattle.pop_net.specs.InputCrowd.{input_crowd}
+use Rattle.pop_net.specs.Step.{Step}
+use Rattle.pop_net.specs.Reachable.{Reachable}
 use Rattle.goal_json.specs.declared.bundle.StableBundle.{StableBundle}
 use Rattle.goal_json.specs.StableFile.{has_goals, IsStableFile}
+use Rattle.net_goals.specs.OutputStable.{IsOutputStable}
 use Rattle.net_goals.specs.StablyRight.{IsStablyRight}
 use Rattle.goal_checker.specs.ValidStable.{ValidStableProof, stable_bound}
+use Rattle.pop_settle.specs.declared.take.Take.{Take}
+use Rattle.pop_settle.specs.Settlement.{IsSettlement}
+use Rattle.goal_settle.specs.Chosen.{proof_at}
 use Rattle.tool_texts.specs.declared.status.Status.{Status}
 use Rattle.tool_texts.specs.declared.status.Status.TheVariants.{Done}
 use Rattle.tool_texts.specs.Json.{HasValue}
+use Rattle.tool_commands.specs.Start.{fitting_in}
 use Rattle.tool_commands.specs.Check.{stable_text}
+use Rattle.tool_commands.specs.Settle.{goals_text}
 
 -- the input, within its limit, is one line, which is the file of this bundle, of which some leaf has goals
 pub record IsStableLine (input : List ℕ) (bundle : StableBundle) : Type 0 where
@@ -41,3 +52,30 @@ pub record IsValidStableLine (input : List ℕ) : Type 0 where
   pub bundle : StableBundle
   pub line : IsStableLine input bundle
   pub valid : HasValidGoals bundle
+
+-- the first line is the file of this bundle, of which some leaf has goals, and the second a crowd line with counts in
+-- which the bundle's net can start
+pub record IsStableInput (first second : List ℕ) (bundle : StableBundle) (counts : List ℕ) : Type 0 where
+  pub value : Data
+  pub reads : HasValue first (Some value)
+  pub goals : has_goals value ≡ true
+  pub file : IsStableFile bundle value
+  pub fits : fitting_in bundle.net second ≡ Ok counts
+
+-- The printed takes lead from the input crowd of the bundle's net to the printed crowd. From there on every agent
+-- outputs the predicate's value, which is printed last, whatever happens.
+pub record SettledSays (input text : List ℕ) : Type 0 where
+  pub first : List ℕ
+  pub second : List ℕ
+  pub lines : lines_of input ≡ first ∷ second ∷ []
+  pub bundle : StableBundle
+  pub counts : List ℕ
+  pub begins : IsStableInput first second bundle counts
+  pub right : IsStablyRight bundle.net bundle.pred.tree (stable_bound bundle.proof)
+  pub takes : List Take
+  pub end : CrowdModel
+  -- by the layers that the counts choose
+  pub settlement : IsSettlement bundle.net (proof_at counts bundle.proof) (input_crowd bundle.net counts) takes end
+  pub reached : Reachable (Step bundle.net) (input_crowd bundle.net counts) end
+  pub stays : IsOutputStable bundle.net (predicate_value bundle.pred.tree counts) end
+  pub printed : text ≡ goals_text bundle.net takes end (predicate_value bundle.pred.tree counts)

@@ -35,7 +35,8 @@ use Rattle.comp_net.specs.declared.choice.LeafChoice.{LeafChoice}
 use Rattle.comp_net.specs.declared.choice.LeafChoice.TheVariants as leaves
 use Rattle.pop_settle.specs.declared.limits.TheConstants.{TAKE_LIMIT}
 use Rattle.tool_texts.specs.declared.refusal.Refusal.TheVariants.{Settle as Settled}
-use Rattle.tool_commands.specs.Settle.{takes_allowed, IsSettled, OfJudged as OfSettleJudged, OfBegun as OfSettleBegun, OfLines as OfSettleLines, SettleGives}
+use Rattle.tool_commands.specs.Settle.{takes_allowed, IsSettled, OfJudged as OfSettleJudged, OfLines as OfSettleLines, SettleGives}
+use Rattle.tool_commands.specs.Settle.{goal_takes_allowed, IsSettledByGoals, OfGoalsJudged, OfAnyBegun as OfAnySettled}
 use Rattle.tool_commands.specs.Compile.{asked_by, fits_its_leaves, OfFitting, OfAsked, CompileGives}
 use Rattle.tool_commands.specs.Demo.{DemoGives}
 use Rattle.tool_commands.specs.Commands.{CommandGives}
@@ -124,10 +125,22 @@ settle_judged_other bundle counts None given is = by_length (nat_lt TAKE_LIMIT (
     by_length false is = subst IsOther (sym is.is) (λ e. absurd cc)
 settle_judged_other bundle counts (Some rejected) given is = subst IsOther (sym is) (λ e. absurd cc)
 
+settle_goals_other : (bundle : StableBundle) (counts : List ℕ) (judged : Option StableRejected) (given : Result Output Refusal) → OfGoalsJudged bundle counts judged given → IsOther given
+settle_goals_other bundle counts None given is = by_length (nat_lt TAKE_LIMIT (goal_takes_allowed bundle counts)) is
+  where
+    by_length : (b : Bool) → MatchBool b (given ≡ Err (Settled (goal_takes_allowed bundle counts))) (IsSettledByGoals bundle counts given) → IsOther given
+    by_length true is = subst IsOther (sym is) (refused (Settled (goal_takes_allowed bundle counts)))
+    by_length false is = subst IsOther (sym is.is) (λ e. absurd cc)
+settle_goals_other bundle counts (Some rejected) given is = subst IsOther (sym is) (λ e. absurd cc)
+
+settle_any_other : (bundle : AnyBundle) (counts : List ℕ) (given : Result Output Refusal) → OfAnySettled bundle counts given → IsOther given
+settle_any_other (Plain bundle) counts given is = settle_judged_other bundle counts is.0 given is.2
+settle_any_other (Stable bundle) counts given is = settle_goals_other bundle counts is.0 given is.2
+
 settle_other : (lines : List (List ℕ)) (given : Result Output Refusal) → SettleGives lines given → IsOther given
 settle_other lines =
     after_keeps IsOther refused (just_two lines) OfSettleLines
-    (λ found given is. after_keeps IsOther refused is.0 OfSettleBegun (λ begin given is. settle_judged_other begin.0 begin.1 is.0 given is.2) given is.2)
+    (λ found given is. after_keeps IsOther refused is.0 (λ begun. OfAnySettled begun.0 begun.1) (λ begin given is. settle_any_other begin.0 begin.1 given is) given is.2)
 
 compile_other : (choice : LeafChoice) (lines : List (List ℕ)) (given : Result Output Refusal) → CompileGives choice lines given → IsOther given
 compile_other choice lines =

@@ -15,7 +15,7 @@ use Rattle.goal_checker.specs.declared.fault.StableRejected.{StableRejected}
 use Rattle.goal_checker.proofs.OneStableFault.{one_stable_rejected, none_stable_rejected}
 use Rattle.tool_commands.specs.declared.bundle.AnyBundle.{AnyBundle}
 use Rattle.tool_commands.specs.declared.bundle.AnyBundle.TheVariants.{Plain, Stable}
-use Rattle.tool_commands.specs.StableBundles.{any_bundle_in, IsAnyBundleOf, IsStableJudged}
+use Rattle.tool_commands.specs.StableBundles.{any_bundle_in, any_begun, IsAnyBundleOf, IsAnyBegunBy, IsStableJudged}
 use Rattle.tool_commands.specs.Check.{judgement, stable_judgement, OfBundle, OfStableBundle, OfAnyBundle, OfLine, CheckGives}
 
 pub one_judged : (bundle : Bundle) (v w : Option Rejected) → IsJudged bundle v → IsJudged bundle w → v ≡ w
@@ -35,7 +35,7 @@ of_bundle : (bundle : Bundle) (x y : Result Output Refusal) → OfBundle bundle 
 of_bundle bundle x y p q =
     p.2 ∙ ap (λ (o : Option Rejected). Ok (judgement bundle o)) (one_judged bundle p.0 q.0 p.1 q.1) ∙ sym q.2
 
-one_stable_judged : (bundle : StableBundle) (v w : Option StableRejected) → IsStableJudged bundle v → IsStableJudged bundle w → v ≡ w
+pub one_stable_judged : (bundle : StableBundle) (v w : Option StableRejected) → IsStableJudged bundle v → IsStableJudged bundle w → v ≡ w
 one_stable_judged bundle None None p q = refl
 one_stable_judged bundle None (Some rejected) p q = absurd (none_stable_rejected bundle.net bundle.pred bundle.proof rejected p q)
 one_stable_judged bundle (Some rejected) None p q = absurd (none_stable_rejected bundle.net bundle.pred bundle.proof rejected q p)
@@ -52,6 +52,9 @@ of_any (Stable bundle) x y p q = of_stable bundle x y p q
 
 pub one_any_bundle : (line : List ℕ) (r s : Result AnyBundle Refusal) → IsAnyBundleOf line r → IsAnyBundleOf line s → r ≡ s
 one_any_bundle line r s p q = p.2 ∙ ap any_bundle_in (one_value line p.0 q.0 p.1 q.1) ∙ sym q.2
+
+pub one_any_begin : (first second : List ℕ) (r s : Result (AnyBundle × List ℕ) Refusal) → IsAnyBegunBy first second r → IsAnyBegunBy first second s → r ≡ s
+one_any_begin first second r s p q = p.2 ∙ ap (λ v. any_begun v second) (one_value first p.0 q.0 p.1 q.1) ∙ sym q.2
 
 of_line : (line : List ℕ) (x y : Result Output Refusal) → OfLine line x → OfLine line y → x ≡ y
 of_line line x y p q =

@@ -1,7 +1,6 @@
 -- A valid proof can be shown.
-use Rattle.std.proofs.Common.{◌≡◌, ℕ, ◌<◌, List, [], ◌∷◌, ◌++◌, length, Some, sym, ap, subst, ◌∙◌}
-use Rattle.std.specs.Prelude.{All, slice_get}
-use Rattle.std.specs.List.{flat_map}
+use Rattle.std.proofs.Common.{◌≡◌, ◌<◌, List, [], ◌∷◌, ◌++◌, length}
+use Rattle.std.specs.Prelude.{All}
 use Rattle.std.proofs.lemmas.List.Elements.{All-cons, All-nil, All-head, All-tail}
 use Rattle.pres_ast.specs.PredModel.{PredModel}
 use Rattle.pop_net.specs.LeafModel.{LeafModel}
@@ -9,11 +8,10 @@ use Rattle.pop_net.specs.NetModel.{NetModel}
 use Rattle.pop_net.proofs.Quiet.{All-slice_get}
 use Rattle.cert_base.specs.declared.layer.Layer.{Layer}
 use Rattle.cert_base.specs.declared.proof.Proof.{Proof}
-use Rattle.cert_base.specs.declared.proof.LeafProof.{LeafProof}
 use Rattle.cert_base.specs.ProofLimits.{IsLeafProofWithin, IsProofWithin}
-use Rattle.cert_base.specs.ValidLayers.{ValidLayers, moves_of_layers}
+use Rattle.cert_base.specs.ValidLayers.{moves_of_layers}
 use Rattle.cert_base.specs.ValidProof.{ValidProof}
-use Rattle.pop_show.specs.Showable.{IsLayerOf, IsPartOf, IsProofOf}
+use Rattle.pop_show.specs.Showable.{IsLayerOf, IsProofOf}
 
 module _ {X : Type 0} (P : X → Type 0) where
   first_part : (xs ys : List X) → All P (xs ++ ys) → All P xs

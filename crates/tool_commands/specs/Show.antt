@@ -1,5 +1,5 @@
 -- What `show` makes of the line of its input: a bundle.
-use Rattle.std.specs.Prelude.{◌≡◌, ℕ, List, ◌∷◌, ◌++◌, Option, Some, None, Result, Ok}
+use Rattle.std.specs.Prelude.{◌≡◌, ℕ, List, ◌++◌, Option, Some, None, Result, Ok}
 use Rattle.pop_lines.specs.Lines.{ended}
 use Rattle.cert_base.specs.ProofBound.{proof_bound}
 use Rattle.cert_json.specs.declared.bundle.Bundle.{Bundle}

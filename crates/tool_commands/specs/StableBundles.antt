@@ -1,6 +1,7 @@
 -- The bundle of a line whose leaves may have goals, and what the check says of its proof.
 use Rattle.std.specs.Prelude.{◌≡◌, ℕ, List, length, Option, Some, None, Result, Ok, Err, if◌then◌else◌}
 use Rattle.serde_json.specs.Data.{Data}
+use Rattle.pop_net.specs.NetModel.{NetModel}
 use Rattle.cert_base.specs.StableProof.{IsStableProofWithin}
 use Rattle.goal_json.specs.StableFile.{has_goals}
 use Rattle.goal_json.specs.Bundles.{stable_bundle_at}
@@ -14,7 +15,7 @@ use Rattle.tool_texts.specs.Steps.{◌>>=◌}
 use Rattle.tool_texts.specs.Json.{HasValue}
 use Rattle.tool_commands.specs.declared.bundle.AnyBundle.{AnyBundle}
 use Rattle.tool_commands.specs.declared.bundle.AnyBundle.TheVariants.{Plain, Stable}
-use Rattle.tool_commands.specs.Start.{formatted}
+use Rattle.tool_commands.specs.Start.{formatted, fitting_in}
 use Rattle.tool_commands.specs.Bundles.{bundle_in, IsBundleWithin}
 
 -- the bundle with goals that this value is the file of
@@ -39,6 +40,21 @@ any_bundle_in (Some d) = if has_goals d then any_stable d else any_plain d
 -- the bundle of this line, or why it is refused
 abbrev pub IsAnyBundleOf : List ℕ → Result AnyBundle Refusal → Type 0
 IsAnyBundleOf line bundle = (value : Option Data) × HasValue line value × (bundle ≡ any_bundle_in value)
+
+abbrev pub net_of : AnyBundle → NetModel
+net_of (Plain bundle) = bundle.net
+net_of (Stable bundle) = bundle.net
+
+-- the bundle, and the counts of a crowd line with which its net starts
+unfoldable pub any_begun : Option Data → List ℕ → Result (AnyBundle × List ℕ) Refusal
+any_begun value line = do
+  bundle ← any_bundle_in value
+  counts ← fitting_in (net_of bundle) line
+  Ok (bundle, counts)
+
+-- the bundle of the first line with the counts of the second, or why one of them is refused
+abbrev pub IsAnyBegunBy : List ℕ → List ℕ → Result (AnyBundle × List ℕ) Refusal → Type 0
+IsAnyBegunBy first second begin = (value : Option Data) × HasValue first value × (begin ≡ any_begun value second)
 
 -- the limits that the check needs
 pub record IsStableBundleWithin (bundle : StableBundle) : Type 0 where

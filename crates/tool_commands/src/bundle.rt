@@ -10,13 +10,14 @@ ghost use Rattle.tool_texts.specs.Steps.{GivesStep, Obeys};
 ghost use Rattle.tool_commands.specs.Start.{IsStart};
 ghost use Rattle.tool_commands.specs.Bundles.{bundle_in, begun, IsBundleWithin, IsBundleOf, IsBegunBy, TellsRejection};
 ghost use Rattle.tool_commands.specs.StableBundles.{stable_in, any_bundle_in, IsStableBundleWithin, IsAnyBundleWithin};
-ghost use Rattle.tool_commands.specs.StableBundles.{IsAnyBundleOf};
+ghost use Rattle.tool_commands.specs.StableBundles.{IsAnyBundleOf, net_of, any_begun, IsAnyBegunBy};
 
 use crate::start::{Start, start_of};
 use cert_json::{Bundle, read_bundle};
 use goal_json::{StableBundle, has_goals, read_stable_bundle};
 use pop_checker::{Checked, Rejected, check};
 use pop_io::Failure;
+use pop_net::Net;
 use serde_json::Value;
 use std::alloc::Global;
 use tool_texts::{Output, Refusal, Stop, stop_of, value_of};
@@ -40,6 +41,17 @@ fn bundle_of_value(alloc: Global, value: &Option<Value>) -> Result<Bundle, Stop>
 pub enum AnyBundle {
     Plain(Bundle),
     Stable(StableBundle),
+}
+
+impl AnyBundle {
+    fn net(&self) -> &Net
+        ensures { result.now ≡ net_of self.now }
+    {
+        match self {
+            AnyBundle::Plain(Bundle { net, .. }) => net,
+            AnyBundle::Stable(StableBundle { net, .. }) => net,
+        }
+    }
 }
 
 /// The bundle with goals that this value is the file of.
@@ -114,6 +126,35 @@ pub(crate) fn begin(alloc: Global, lines: (&[u8], &[u8])) -> Result<(Bundle, Sta
 {
     let value = value_of(alloc, lines.0)?;
     bundle_and_start(alloc, &value, lines.1)
+}
+
+/// The bundle of a line that has this value, with goals or without, and how its net starts at a crowd line.
+#[tactic(auto, unfolding(crate::specs::StableBundles::any_begun))]
+fn any_bundle_and_start(
+    alloc: Global,
+    value: &Option<Value>,
+    crowd: &[u8],
+) -> Result<(AnyBundle, Start), Stop>
+    ensures begun { GivesStep
+        (λ begin. (begin.0, begin.1.counts)) result (any_begun (option_map view value.now) crowd.now) }
+    ensures limits { IfOk result (λ begin. IsAnyBundleWithin begin.0) }
+    ensures start { IfOk result (λ begin. IsStart (net_of begin.0) begin.1) }
+{
+    let bundle = any_bundle_of_value(alloc, value)?;
+    let start = start_of(alloc, bundle.net(), crowd)?;
+    Ok((bundle, start))
+}
+
+/// The bundle of the first line, with goals or without, and how its net starts at the second. The first line's value is
+/// dropped.
+pub(crate) fn begin_any(alloc: Global, lines: (&[u8], &[u8])) -> Result<(AnyBundle, Start), Stop>
+    ensures begun { Obeys (IsAnyBegunBy lines.entry.0.now lines.entry.1.now)
+        (λ begin. (begin.0, begin.1.counts)) result }
+    ensures limits { IfOk result (λ begin. IsAnyBundleWithin begin.0) }
+    ensures start { IfOk result (λ begin. IsStart (net_of begin.0) begin.1) }
+{
+    let value = value_of(alloc, lines.0)?;
+    any_bundle_and_start(alloc, &value, lines.1)
 }
 
 /// The net and the predicate of a bundle, if its proof is valid.

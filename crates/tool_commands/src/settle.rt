@@ -7,13 +7,19 @@ ghost use Rattle.pop_journal.specs.Journal.{text_of};
 ghost use Rattle.pop_settle.specs.Settling.{HasLayers};
 ghost use Rattle.tool_texts.specs.Steps.{Obeys};
 ghost use Rattle.tool_commands.specs.Start.{IsStart};
+ghost use Rattle.goal_checker.specs.ValidStable.{ValidStableProof};
 ghost use Rattle.tool_commands.specs.Bundles.{IsBundleWithin};
-ghost use Rattle.tool_commands.specs.Settle.{take_line, settle_text, OfJudged, OfBegun, SettleGives};
+ghost use Rattle.tool_commands.specs.StableBundles.{IsStableBundleWithin, IsAnyBundleWithin, net_of};
+ghost use Rattle.tool_commands.specs.Settle.{take_line, takes_text, settle_text, settled_line, goals_text};
+ghost use Rattle.tool_commands.specs.Settle.{OfJudged, OfBegun, OfGoalsJudged, OfGoalsBegun, OfAnyBegun, SettleGives};
 
-use crate::bundle::{begin, rejection_of};
+use crate::bundle::{AnyBundle, begin_any, rejection_of};
 use crate::start::Start;
 use cert_base::Proof;
 use cert_json::Bundle;
+use goal_checker::check_stable;
+use goal_json::StableBundle;
+use goal_settle::settle_goals;
 use pop_checker::{Checked, check};
 use pop_crowd::Crowd;
 use pop_io::{Failure, NoMemory};
@@ -43,6 +49,20 @@ fn push_takes(text: &mut Vec<u8>, takes: &[Take]) -> Result<(), AllocError>
     Ok(())
 }
 
+/// The takes, and the lines of the last crowd.
+fn takes_text(alloc: Global, net: &Net, settled: &Settled) -> Result<Vec<u8>, NoMemory>
+    requires { AreValid net.now settled.now.crowd }
+    ensures { IfOk result (λ text.
+        text.items ≡ takes_text net.now settled.now.takes (crowd_of net.now settled.now.crowd)) }
+{
+    let mut text = Vec::new(alloc);
+    push_takes(&mut text, settled.takes.as_slice())?;
+    text.extend_from_slice(b"end\n")?;
+    let crowd = settled.crowd.tally(alloc, net)?;
+    text.extend_from_slice(crowd.as_slice())?;
+    Ok(text)
+}
+
 /// The takes, the lines of the last crowd, and the verdict.
 fn settled_text(
     alloc: Global,
@@ -54,11 +74,7 @@ fn settled_text(
     ensures { IfOk result (λ text.
         text.items ≡ settle_text net.now settled.now.takes (crowd_of net.now settled.now.crowd) verdict) }
 {
-    let mut text = Vec::new(alloc);
-    push_takes(&mut text, settled.takes.as_slice())?;
-    text.extend_from_slice(b"end\n")?;
-    let crowd = settled.crowd.tally(alloc, net)?;
-    text.extend_from_slice(crowd.as_slice())?;
+    let mut text = takes_text(alloc, net, settled)?;
     push_last_line(&mut text, Last::Verdict(verdict))?;
     Ok(text)
 }
@@ -103,12 +119,93 @@ fn settle_begun(alloc: Global, bundle: Bundle, counts: &[u64], crowd: Crowd) -> 
     }
 }
 
+fn push_settled_line(text: &mut Vec<u8>, value: bool) -> Result<(), AllocError>
+    ensures { OnOk result (text.new.items ≡ text.old.items ++ ended (settled_line value)) }
+{
+    if value {
+        text.extend_from_slice(b"settled true\n")
+    } else {
+        text.extend_from_slice(b"settled false\n")
+    }
+}
+
+/// The takes, the lines of the last crowd, and the value that every agent outputs for ever.
+fn goals_text(alloc: Global, net: &Net, settled: &Settled, value: bool) -> Result<Vec<u8>, NoMemory>
+    requires { AreValid net.now settled.now.crowd }
+    ensures { IfOk result (λ text.
+        text.items ≡ goals_text net.now settled.now.takes (crowd_of net.now settled.now.crowd) value) }
+{
+    let mut text = takes_text(alloc, net, settled)?;
+    push_settled_line(&mut text, value)?;
+    Ok(text)
+}
+
+/// The settlement by goals of a crowd, whose proof is valid.
+fn settle_by_goals(
+    alloc: Global,
+    bundle: &StableBundle,
+    counts: &[u64],
+    crowd: Crowd,
+) -> Result<Output, Stop>
+    requires limits { IsStableBundleWithin bundle.now }
+    requires valid { ValidStableProof bundle.now.net bundle.now.pred bundle.now.proof }
+    requires start { IsStart bundle.now.net (record { counts = counts.now; crowd = crowd }) }
+    ensures { Obeys (OfGoalsJudged bundle.now counts.now None) (λ output. output) result }
+{
+    match settle_goals(alloc, &bundle.net, &bundle.proof, counts, crowd) {
+        Ok(settled) => {
+            let value = bundle.pred.eval(counts);
+            let text = goals_text(alloc, &bundle.net, &settled, value)?;
+            Ok(Output::new(text, Ending::Done))
+        }
+        Err(Failure::Fault(SettleFault::Long(takes))) => Err(Failure::Fault(Refusal::Settle(
+            takes,
+        ))),
+        Err(Failure::NoMemory) => Err(Failure::NoMemory),
+    }
+}
+
+/// The output for the crowd of a bundle with goals, if the proof is valid.
+fn settle_goals_begun(
+    alloc: Global,
+    bundle: StableBundle,
+    counts: &[u64],
+    crowd: Crowd,
+) -> Result<Output, Stop>
+    requires limits { IsStableBundleWithin bundle }
+    requires start { IsStart bundle.net (record { counts = counts.now; crowd = crowd }) }
+    ensures { Obeys (OfGoalsBegun bundle counts.now) (λ output. output) result }
+{
+    match check_stable(alloc, &bundle.net, &bundle.pred, &bundle.proof) {
+        Ok(_bound) => settle_by_goals(alloc, &bundle, counts, crowd),
+        Err(Failure::Fault(rejected)) => Ok(Output::of_stable_rejection(alloc, rejected)?),
+        Err(Failure::NoMemory) => Err(Failure::NoMemory),
+    }
+}
+
+/// The output for the crowd of a bundle with goals or without.
+fn settle_any(
+    alloc: Global,
+    bundle: AnyBundle,
+    counts: &[u64],
+    crowd: Crowd,
+) -> Result<Output, Stop>
+    requires limits { IsAnyBundleWithin bundle }
+    requires start { IsStart (net_of bundle) (record { counts = counts.now; crowd = crowd }) }
+    ensures { Obeys (OfAnyBegun bundle counts.now) (λ output. output) result }
+{
+    match bundle {
+        AnyBundle::Plain(bundle) => settle_begun(alloc, bundle, counts, crowd),
+        AnyBundle::Stable(bundle) => settle_goals_begun(alloc, bundle, counts, crowd),
+    }
+}
+
 /// What `settle` gives for an input that isn't too long.
 pub(crate) fn settle(alloc: Global, input: &[u8]) -> Result<Output, Stop>
     ensures { Obeys (SettleGives (lines_of input.now)) (λ output. output) result }
 {
     let lines = just_two_lines(input)?;
-    let (bundle, start) = begin(alloc, lines)?;
+    let (bundle, start) = begin_any(alloc, lines)?;
     let Start { counts, crowd } = start;
-    settle_begun(alloc, bundle, counts.as_slice(), crowd)
+    settle_any(alloc, bundle, counts.as_slice(), crowd)
 }

@@ -1,5 +1,4 @@
-use Rattle.std.proofs.Common.{◌≡◌, ℕ, Ok, Some, None, Result, refl, sym, ap, subst, ◌∙◌}
-use Rattle.cert_base.specs.ProofBound.{proof_bound}
+use Rattle.std.proofs.Common.{Ok, Some, None, Result, refl, sym, ap, subst}
 use Rattle.pop_checker.specs.CheckedModel.{CheckedModel}
 use Rattle.pop_show.specs.Showable.{IsProofOf}
 use Rattle.tool_texts.specs.declared.refusal.Refusal.{Refusal}

@@ -1,0 +1,8 @@
+mod Copied
+mod HushedLeaves
+mod ChosenLayers
+mod Takes
+mod Dead
+pub mod Rests
+mod Bounds
+mod Given

@@ -1,0 +1,4 @@
+pub mod Chosen
+pub mod HushedNet
+pub mod SettlesGoals
+pub mod Laws
