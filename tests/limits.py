@@ -34,6 +34,7 @@ WANTED = {
         "SIZE_LIMIT",
         "INDEX_COUNT",
         "STATE_INDEX_COUNT",
+        "SET_LIMIT",
     ),
     "pop_crowd": ("AGENT_LEAST", "AGENT_LIMIT"),
     "pop_words": ("TURN_LIMIT", "MEETING_LIMIT", "SEED_LIMIT", "WATCHED_WORKERS", "DEMO_LIMIT"),

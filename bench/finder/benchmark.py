@@ -73,7 +73,7 @@ def _result(case: Case, loaded: LoadedNet, seconds: float) -> tuple[str, str]:
     """What is said, by the program where it is a verdict, and the nodes of trees."""
     found = find(loaded, seconds, 0.0, jobs=1)
     if found.bundle is not None:
-        nodes = " ".join(f"{len(part.true)},{len(part.false)}" for part in found.bundle.proof)
+        nodes = " ".join(f"{len(part.tree(True))},{len(part.tree(False))}" for part in found.bundle.proof)
         return program.check(found.bundle.line()).first_line, nodes
     if found.flaw is None:
         return f"neither: {found.failures[0].reason}", ""

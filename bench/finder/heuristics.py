@@ -99,7 +99,7 @@ def measured(cases: list[Case], small: float) -> tuple[float, int, int]:
         if found.bundle is None:
             lost += 1
         else:
-            nodes += sum(len(part.true) + len(part.false) for part in found.bundle.proof)
+            nodes += sum(len(part.tree(True)) + len(part.tree(False)) for part in found.bundle.proof)
     return time.process_time() - start, nodes, lost
 
 

@@ -26,7 +26,7 @@ def measured(case: Case, seconds: float, small: float) -> str:
     moves = sum(len(leaf.moves) for leaf in case.net.leaves)
     if found.bundle is not None:
         answer = program.check(found.bundle.line())
-        nodes = " ".join(f"{len(part.true)},{len(part.false)}" for part in found.bundle.proof)
+        nodes = " ".join(f"{len(part.tree(True))},{len(part.tree(False))}" for part in found.bundle.proof)
         assert answer.first_line != f"certified {bound(found.bundle)}" or answer.status == program.DONE
         result = answer.first_line
     else:

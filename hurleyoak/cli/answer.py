@@ -1,12 +1,14 @@
 """Answers a command of the program with a file or a predicate as an argument; sentences go to standard error."""
 from __future__ import annotations
 
+import json
 import os
 import sys
 
 from ..faults import InputFault
 from ..engine.places import BY_SCRIPT
 from ..engine.program import NoProgram
+from ..proof.bundles import bundle_of
 from ..statuses import DIFFERS, REFUSED, REJECTED, UNDECIDED, USAGE, WRITE_FAULT
 from ..saying import say
 from ..text.files import STANDARD_INPUT
@@ -148,8 +150,8 @@ def run_request(request: Request, asked: Asked) -> int:
         status = told_twice(asked.lines[0], printed)
         if status != printed.status:
             return status
-    if request.command == "check" and asked.is_by_names and printed.status == 0:
-        say_certified(asked)
+    if request.command == "check" and printed.status == 0:
+        say_shown(asked, printed.line())
     if printed.status == 0:
         return 0 if request.output is None else write_output(request.output, printed.data)
     if request.output is not None and printed.status == UNDECIDED:
@@ -162,6 +164,17 @@ def run_request(request: Request, asked: Asked) -> int:
     if printed.status == USAGE and len(request.options) == 0:
         say([FORMS[request.command]])
     return printed.status
+
+
+def say_shown(asked: Asked, line: str) -> None:
+    """What the program has shown stable; of a file by names also the net, and what it has certified."""
+    from ..show.told.stable import STABLE, stable_told
+
+    if line.startswith(STABLE):
+        bundle = bundle_of(json.loads(asked.lines[0]))
+        say(stable_told(bundle, line, asked.file, asked.is_by_names))
+    elif asked.is_by_names:
+        say_certified(asked)
 
 
 def say_certified(asked: Asked) -> None:

@@ -239,8 +239,8 @@ def _told(items: Sequence[int], progress: bool) -> Iterable[int]:
 
 def _verdict(line: str) -> Verdict:
     word, _, rest = line.partition(" ")
-    certified = word == "certified"
-    return Verdict(line, certified, int(rest) if certified else None)
+    certified, stable = word == "certified", word == "stable"
+    return Verdict(line, certified, int(rest) if certified or stable else None, stable)
 
 
 def load(path: str) -> Protocol:

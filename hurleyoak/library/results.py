@@ -13,18 +13,19 @@ if TYPE_CHECKING:
 
 @dataclass(frozen=True)
 class Verdict:
-    """The program's line on a bundle. `bound` is the number behind `certified`: steps for each agent; None if
-    rejected."""
+    """The program's line on a bundle, which is true where it is certified or stable. `stable` says that outputs come
+    to rest while agents may go on changing. `bound` is the number behind the word: steps for each agent."""
 
     line: str
     certified: bool
     bound: int | None
+    stable: bool = False
 
     def __repr__(self) -> str:
         return self.line
 
     def __bool__(self) -> bool:
-        return self.certified
+        return self.certified or self.stable
 
 
 @dataclass(frozen=True)

@@ -94,7 +94,7 @@ def visits(names: Names, tree: Predicate, value: bool, nodes: Sequence[Node]) ->
 
     A node whose case has a label and which has just one case itself stands one level deeper than its label.
     """
-    space = Space(names.leaf)
+    space = Space(names.leaf, names.goal)
     branch = Branch()
     waiting = [
         _Case(

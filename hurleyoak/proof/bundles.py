@@ -1,125 +1,106 @@
-"""Proofs and bundles: layers, the nodes of trees, and their JSON files (docs/reference/formats.md).
-
-A tree is the list of its nodes in preorder; what each node means stands in docs/guide/certificates.md.
-"""
+"""Proofs and bundles: the parts of leaves, which fall silent or have goals, and their JSON files
+(docs/reference/formats.md)."""
 from __future__ import annotations
 
 from dataclasses import dataclass
+from functools import cached_property
 from typing import Any, Sequence, Union
 
-from ..limits import INDEX_COUNT, LAYER_LIMIT, NODE_LIMIT, STATE_INDEX_COUNT, TERM_LIMIT
-from ..limits import MODULUS_LIMIT as GREATEST_MODULUS
-from ..limits import MOVE_LIMIT as LISTED_LIMIT
-from ..limits import SIZE_LIMIT as SIZE_LIMIT
-from ..limits import STATE_LIMIT as SET_LIMIT
-from ..limits import STATE_LIMIT as WEIGHT_LIMIT
-from ..protocol.nets import FormatFault, Leaf, Net, compact, items, member, net_of, whole
+from ..limits import SET_LIMIT
+from ..protocol.nets import FormatFault, Leaf, Net, compact, items, member, net_of
 from ..protocol.predicatereader import read_predicate
-from ..protocol.predicates import LEAST_MODULUS, PredicateFault
+from ..protocol.predicates import PredicateFault
+from .nodes import Hole as Hole
+from .nodes import Layer as Layer
+from .nodes import Linear as Linear
+from .nodes import Node as Node
+from .nodes import Open as Open
+from .nodes import Present as Present
+from .nodes import Residue as Residue
+from .nodes import SIZE_LIMIT as SIZE_LIMIT
+from .nodes import Siphon as Siphon
+from .nodes import Split as Split
+from .nodes import Term as Term
+from .nodes import Trap as Trap
+from .nodes import Tree as Tree
+from .nodes import Twin as Twin
+from .nodes import layer_of as layer_of
+from .nodes import node_of as node_of
+from .nodes import node_value as node_value
+from .nodes import layer_value, layers_of, set_of, tree_of
 
-NUMBER_LIMIT = INDEX_COUNT - 1
-STATE_NUMBER_LIMIT = STATE_INDEX_COUNT - 1
-
-Term = tuple[int, int]
-
-
-@dataclass(frozen=True)
-class Linear:
-    """Ends a branch: the sum of the facts times their multipliers cannot be at least 0. Terms are (fact,
-    multiplier)."""
-
-    terms: tuple[Term, ...]
-
-
-@dataclass(frozen=True)
-class Residue:
-    """Ends a branch modulo a number. Terms are (fact, multiplier)."""
-
-    modulus: int
-    terms: tuple[Term, ...]
-
-
-@dataclass(frozen=True)
-class Split:
-    """A sum is above 0, is 0, or is below. Terms are (variable, coefficient), ascending."""
-
-    terms: tuple[Term, ...]
-    constant: int
+GOALS = "goals"
 
 
 @dataclass(frozen=True)
-class Present:
-    """A state is absent at the end, or there alone with what it doesn't react with."""
+class Goal:
+    """What an input with one value is led to, and kept in: layers of some moves, sets of states, and a tree.
 
-    state: int
+    Without sets there is one, all states with this output.
+    """
 
+    layers: tuple[Layer, ...]
+    sets: tuple[tuple[int, ...], ...]
+    nodes: Tree
 
-@dataclass(frozen=True)
-class Twin:
-    """A state that can meet itself stands at most once at the end."""
-
-    state: int
-
-
-@dataclass(frozen=True)
-class Trap:
-    """A set of states that keeps an agent unless a move leaves it."""
-
-    states: tuple[int, ...]
-
-
-@dataclass(frozen=True)
-class Siphon:
-    """A set of states that stays empty unless a move enters it or an agent starts in it."""
-
-    states: tuple[int, ...]
-
-
-@dataclass(frozen=True)
-class Open:
-    """Opens a fact that says what value a predicate has."""
-
-    fact: int
-
-
-@dataclass(frozen=True)
-class Hole:
-    """A part that is to be found; `kind` is `tree`, or `lin` or `residue` with its modulus. No file of a bundle has
-    one."""
-
-    kind: str = "tree"
-    modulus: int = 0
-
-
-Node = Union[Linear, Residue, Split, Present, Twin, Trap, Siphon, Open]
-Tree = tuple[Node, ...]
-
-
-@dataclass(frozen=True)
-class Layer:
-    """Moves of one layer, by number, and one weight for each state."""
-
-    moves: tuple[int, ...]
-    weights: tuple[int, ...]
+    @cached_property
+    def listed(self) -> frozenset[int]:
+        """The moves of its layers."""
+        return frozenset(t for layer in self.layers for t in layer.moves)
 
     @property
-    def spread(self) -> int:
-        """The greatest weight less the least: how many steps each agent pays for this layer."""
-        return max(self.weights) - min(self.weights) if self.weights else 0
+    def bound(self) -> int:
+        """How many steps each agent pays at most."""
+        return sum(layer.spread for layer in self.layers)
 
 
 @dataclass(frozen=True)
 class LeafProof:
-    """The proof of one leaf: its predicate's text, layers, and a tree for each value."""
+    """The proof of a leaf that falls silent: its predicate's text, layers, and a tree for each value."""
 
     pred: str
     layers: tuple[Layer, ...]
     true: Tree
     false: Tree
 
+    @property
+    def bound(self) -> int:
+        """How many steps each agent pays at most."""
+        return sum(layer.spread for layer in self.layers)
+
+    @staticmethod
+    def goal(value: bool) -> Goal | None:
+        """None: it has no goals."""
+        return None
+
     def tree(self, value: bool) -> Tree:
         """The tree that refutes wrong ends where the predicate has this value."""
         return self.true if value else self.false
+
+
+@dataclass(frozen=True)
+class LeafGoals:
+    """The proof of a leaf whose agents may change for ever: its predicate's text, and a goal for each value."""
+
+    pred: str
+    on_true: Goal
+    on_false: Goal
+
+    @property
+    def bound(self) -> int:
+        """How many steps each agent pays at most."""
+        return max(self.on_true.bound, self.on_false.bound)
+
+    def goal(self, value: bool) -> Goal:
+        """The goal for this value."""
+        return self.on_true if value else self.on_false
+
+    def tree(self, value: bool) -> Tree:
+        """The tree of the goal for this value."""
+        return self.goal(value).nodes
+
+
+Part = Union[LeafProof, LeafGoals]
 
 
 @dataclass(frozen=True)
@@ -128,7 +109,12 @@ class Bundle:
 
     net: Net
     pred: str
-    proof: tuple[LeafProof, ...]
+    proof: tuple[Part, ...]
+
+    @property
+    def has_goals(self) -> bool:
+        """Whether some leaf's proof has goals: what is shown then is stable, and need not be silent."""
+        return any(isinstance(part, LeafGoals) for part in self.proof)
 
     def value(self) -> dict[str, Any]:
         """The JSON value of the bundle file."""
@@ -139,93 +125,22 @@ class Bundle:
         return compact(self.value())
 
 
-def node_value(node: Node) -> list[Any]:
-    """The JSON list of a node."""
-    if isinstance(node, Linear):
-        return ["lin", [list(t) for t in node.terms]]
-    if isinstance(node, Residue):
-        return ["residue", node.modulus, [list(t) for t in node.terms]]
-    if isinstance(node, Split):
-        return ["split", [list(t) for t in node.terms], node.constant]
-    if isinstance(node, (Trap, Siphon)):
-        return ["trap" if isinstance(node, Trap) else "siphon", list(node.states)]
-    if isinstance(node, Open):
-        return ["open", node.fact]
-    return ["present" if isinstance(node, Present) else "twin", node.state]
+def goal_value(goal: Goal) -> dict[str, Any]:
+    """The JSON object of a goal."""
+    sets = {"sets": [list(states) for states in goal.sets]} if goal.sets else {}
+    return {"layers": list(map(layer_value, goal.layers)), **sets, "nodes": list(map(node_value, goal.nodes))}
 
 
-def proof_value(part: LeafProof) -> dict[str, Any]:
+def proof_value(part: Part) -> dict[str, Any]:
     """The JSON object of a leaf's proof."""
+    if isinstance(part, LeafGoals):
+        return {"pred": part.pred, GOALS: [goal_value(part.on_true), goal_value(part.on_false)]}
     return {
         "pred": part.pred,
-        "layers": [{"moves": list(layer.moves), "weights": list(layer.weights)} for layer in part.layers],
-        "true": [node_value(n) for n in part.true],
-        "false": [node_value(n) for n in part.false],
+        "layers": list(map(layer_value, part.layers)),
+        "true": list(map(node_value, part.true)),
+        "false": list(map(node_value, part.false)),
     }
-
-
-def _terms(value: Any, path: str, ascending: bool) -> tuple[Term, ...]:
-    out: list[Term] = []
-    for i, term in enumerate(items(value, path, 0, TERM_LIMIT)):
-        at = f"{path}/{i}"
-        if not isinstance(term, list) or len(term) != 2:
-            raise FormatFault(at, "kind")
-        number = whole(term[0], f"{at}/0", 0, NUMBER_LIMIT)
-        if ascending and out and number <= out[-1][0]:
-            raise FormatFault(f"{at}/0", "range")
-        out.append((number, whole(term[1], f"{at}/1", -SIZE_LIMIT, SIZE_LIMIT)))
-    return tuple(out)
-
-
-def _set(value: Any, path: str) -> tuple[int, ...]:
-    out: list[int] = []
-    for i, state in enumerate(items(value, path, 0, SET_LIMIT)):
-        number = whole(state, f"{path}/{i}", 0, STATE_NUMBER_LIMIT)
-        if out and number <= out[-1]:
-            raise FormatFault(f"{path}/{i}", "range")
-        out.append(number)
-    return tuple(out)
-
-
-_ITEMS = {"lin": 2, "residue": 3, "split": 3, "present": 2, "twin": 2, "trap": 2, "siphon": 2, "open": 2}
-
-
-def node_of(value: Any, path: str) -> Node:
-    """The node of a JSON value, or a FormatFault."""
-    if not isinstance(value, list) or not value:
-        raise FormatFault(path, "kind")
-    word = value[0]
-    if not isinstance(word, str):
-        raise FormatFault(f"{path}/0", "kind")
-    if word not in _ITEMS:
-        raise FormatFault(f"{path}/0", "name")
-    if len(value) != _ITEMS[word]:
-        raise FormatFault(path, "kind")
-    if word == "lin":
-        return Linear(_terms(value[1], f"{path}/1", False))
-    if word == "residue":
-        return Residue(
-            whole(value[1], f"{path}/1", LEAST_MODULUS, GREATEST_MODULUS), _terms(value[2], f"{path}/2", False)
-        )
-    if word == "split":
-        return Split(_terms(value[1], f"{path}/1", True), whole(value[2], f"{path}/2", -SIZE_LIMIT, SIZE_LIMIT))
-    if word in ("trap", "siphon"):
-        states = _set(value[1], f"{path}/1")
-        return Trap(states) if word == "trap" else Siphon(states)
-    if word == "open":
-        return Open(whole(value[1], f"{path}/1", 0, NUMBER_LIMIT))
-    state = whole(value[1], f"{path}/1", 0, STATE_NUMBER_LIMIT)
-    return Present(state) if word == "present" else Twin(state)
-
-
-def layer_of(value: Any, path: str) -> Layer:
-    """The layer of a JSON value, or a FormatFault."""
-    moves = items(member(value, "moves", path), f"{path}/moves", 0, LISTED_LIMIT)
-    listed = tuple(whole(t, f"{path}/moves/{i}", 0, NUMBER_LIMIT) for i, t in enumerate(moves))
-    weights = items(member(value, "weights", path), f"{path}/weights", 0, WEIGHT_LIMIT)
-    return Layer(
-        listed, tuple(whole(w, f"{path}/weights/{i}", -SIZE_LIMIT, SIZE_LIMIT) for i, w in enumerate(weights))
-    )
 
 
 def _pred(value: Any, path: str, names: Sequence[str]) -> str:
@@ -239,9 +154,23 @@ def _pred(value: Any, path: str, names: Sequence[str]) -> str:
     return text
 
 
-def _tree(value: Any, name: str, path: str) -> Tree:
-    nodes = items(member(value, name, path), f"{path}/{name}", 0, NODE_LIMIT)
-    return tuple(node_of(n, f"{path}/{name}/{i}") for i, n in enumerate(nodes))
+def goal_of(value: Any, path: str) -> Goal:
+    """The goal of a JSON value, or a FormatFault."""
+    layers = layers_of(value, path)
+    given = items(value["sets"], f"{path}/sets", 0, SET_LIMIT) if "sets" in value else []
+    sets = tuple(set_of(states, f"{path}/sets/{j}") for j, states in enumerate(given))
+    return Goal(layers, sets, tree_of(value, "nodes", path))
+
+
+def _part(value: Any, path: str, names: Sequence[str]) -> Part:
+    text = _pred(value, path, names)
+    if GOALS not in value or "layers" in value:
+        layers = layers_of(value, path)
+        return LeafProof(text, layers, tree_of(value, "true", path), tree_of(value, "false", path))
+    goals = value[GOALS]
+    if not isinstance(goals, list) or len(goals) != 2:
+        raise FormatFault(f"{path}/{GOALS}", "kind")
+    return LeafGoals(text, goal_of(goals[0], f"{path}/{GOALS}/0"), goal_of(goals[1], f"{path}/{GOALS}/1"))
 
 
 def bundle_of(value: Any) -> Bundle:
@@ -253,14 +182,8 @@ def bundle_of(value: Any) -> Bundle:
         raise FormatFault("/net" + fault.path, fault.why) from None
     pred = _pred(value, "", net.names)
     count = len(net.leaves)
-    parts: list[LeafProof] = []
-    for i, part in enumerate(items(member(value, "proof", ""), "/proof", count, count)):
-        path = f"/proof/{i}"
-        text = _pred(part, path, net.names)
-        layers = items(member(part, "layers", path), f"{path}/layers", 0, LAYER_LIMIT)
-        read = tuple(layer_of(layer, f"{path}/layers/{j}") for j, layer in enumerate(layers))
-        parts.append(LeafProof(text, read, _tree(part, "true", path), _tree(part, "false", path)))
-    return Bundle(net, pred, tuple(parts))
+    given = enumerate(items(member(value, "proof", ""), "/proof", count, count))
+    return Bundle(net, pred, tuple(_part(part, f"/proof/{i}", net.names) for i, part in given))
 
 
 def start_crowd(leaf: Leaf, counts: Sequence[int]) -> list[int]:

@@ -12,7 +12,10 @@ from ..protocol.nets import Leaf, Net, pair
 from ..protocol.predicatereader import read_predicate
 from ..protocol.predicates import Predicate
 from ..protocol.combining import combined_predicate
-from .bundles import Bundle, Layer, Linear, Node, Open, Residue, Term, Twin
+from .bundles import Bundle, Goal, Layer, LeafProof, Linear, Node, Open, Part, Residue, Term, Twin
+from .ends import kept
+from .staying import agents_before as agents_before
+from .staying import SetFault, sets_fault
 
 PATH_LIMIT = 4_096
 
@@ -37,6 +40,10 @@ class TreeFault:
 
     node: int
     why: str
+
+    def words(self) -> str:
+        """The program's words."""
+        return f"{self.node} {self.why}"
 
 
 def layer_fault(leaf: Leaf, layers: Sequence[Layer]) -> LayerFault | None:
@@ -79,16 +86,6 @@ def first_woken(leaf: Leaf, place: dict[int, int]) -> tuple[int, int] | None:
         if woken:
             return t, min(woken)
     return None
-
-
-def agents_before(leaf: Leaf, t: int, u: int) -> list[int]:
-    """The agents that meet in t, and beside them those of u that t doesn't bring."""
-    p, q, r, s = leaf.moves[t]
-    rest = list(leaf.moves[u][:2])
-    for state in (r, s):
-        if state in rest:
-            rest.remove(state)
-    return [p, q, *rest]
 
 
 def wakes(leaf: Leaf, t: int, u: int, first: dict[tuple[int, int], int], at: int) -> bool:
@@ -164,7 +161,7 @@ def node_fault(space: Space, facts: Sequence[Fact], above: int, node: Node) -> s
         return None if closed else "not-closed"
     if isinstance(node, Open) and node.fact >= len(facts) or not space.is_in_range(node):
         return "bad-index"
-    if isinstance(node, Twin) and node.state not in space.leaf.partners[node.state]:
+    if isinstance(node, Twin) and node.state not in space.partners[node.state]:
         return "no-twin"
     if isinstance(node, Open) and facts[node.fact].kind != HOLDS:
         return "not-open"
@@ -190,9 +187,31 @@ def tree_fault(space: Space, tree: Predicate, value: bool, nodes: Sequence[Node]
     return TreeFault(len(nodes), "missing") if waiting else None
 
 
+def goal_fault(leaf: Leaf, tree: Predicate, value: bool, goal: Goal) -> LayerFault | SetFault | TreeFault | None:
+    """Where a goal fails first: its layers, for the moves that they list alone; its sets; its tree."""
+    return (
+        layer_fault(kept(leaf, goal.listed), goal.layers)
+        or sets_fault(leaf, value, goal)
+        or tree_fault(Space(leaf, goal), tree, value, goal.nodes)
+    )
+
+
+def part_fault(leaf: Leaf, part: Part, tree: Predicate) -> str:
+    """Where a leaf's proof fails first, in the program's words; empty where it is valid."""
+    broken = layer_fault(leaf, part.layers) if isinstance(part, LeafProof) else None
+    if broken:
+        return broken.words()
+    for value in (True, False):
+        goal = part.goal(value)
+        fault = goal_fault(leaf, tree, value, goal) if goal else tree_fault(Space(leaf), tree, value, part.tree(value))
+        if fault:
+            return f"{str(value).lower()} {fault.words()}"
+    return ""
+
+
 def bound(bundle: Bundle) -> int:
-    """What `certified` says of a valid proof: the spreads of all layers, added up."""
-    return sum(layer.spread for part in bundle.proof for layer in part.layers)
+    """What `certified` or `stable` says of a valid proof: the bounds of all leaves, added up."""
+    return sum(part.bound for part in bundle.proof)
 
 
 def predicates_agree(net: Net, bundle: Bundle) -> bool:
@@ -204,15 +223,9 @@ def predicates_agree(net: Net, bundle: Bundle) -> bool:
 def verdict(bundle: Bundle) -> str:
     """The line that the program is expected to print; only the program's own line counts."""
     for i, (leaf, part) in enumerate(zip(bundle.net.leaves, bundle.proof)):
-        broken = layer_fault(leaf, part.layers)
-        if broken:
-            return f"rejected leaf {i} {broken.words()}"
-        space = Space(leaf)
-        tree = read_predicate(part.pred, bundle.net.names)
-        for value in (True, False):
-            fault = tree_fault(space, tree, value, part.tree(value))
-            if fault:
-                return f"rejected leaf {i} {str(value).lower()} {fault.node} {fault.why}"
+        words = part_fault(leaf, part, read_predicate(part.pred, bundle.net.names))
+        if words:
+            return f"rejected leaf {i} {words}"
     if not predicates_agree(bundle.net, bundle):
         return "rejected predicate"
-    return f"certified {bound(bundle)}"
+    return f"{'stable' if bundle.has_goals else 'certified'} {bound(bundle)}"

@@ -12,7 +12,8 @@ from typing import Iterable, Iterator, Sequence
 
 from ..protocol.nets import Leaf
 from ..protocol.predicates import And, Less, Not, Or, Predicate, Rest
-from .bundles import Node, Open, Present, Siphon, Split, Term, Trap, Twin
+from .bundles import Goal, Node, Open, Present, Siphon, Split, Term, Trap, Twin
+from .ends import partners_of, sets_of
 
 
 class FactKind(Enum):
@@ -66,10 +67,11 @@ def equal(terms: Iterable[Term], constant: int = 0) -> Fact:
 
 
 class Space:
-    """The variables of one leaf, the base facts, and the cases of nodes."""
+    """The variables of one leaf, the base facts, and the cases of nodes; of a tree for the leaf, or for a goal."""
 
-    def __init__(self, leaf: Leaf) -> None:
-        self.leaf = leaf
+    def __init__(self, leaf: Leaf, goal: Goal | None = None) -> None:
+        self.leaf, self.goal = leaf, goal
+        self.partners = partners_of(leaf, goal)
         self.inputs, self.states, self.moves = len(leaf.inputs), len(leaf.states), len(leaf.moves)
         self.variables = self.inputs + self.states + self.moves
 
@@ -93,12 +95,20 @@ class Space:
 
     def base(self, tree: Predicate, value: bool) -> list[Fact]:
         """The facts of every wrong end: flow, two agents, the predicate, somebody is wrong."""
-        wrong = [(self.count(q), 1) for q in range(self.states) if self.leaf.outputs[q] != value]
         return [
             *self.flow(),
             at_least(((i, 1) for i in range(self.inputs)), len(self.leaf.helpers) - 2),
             Fact(HOLDS, tree=tree, value=value),
-            at_least(wrong, -1),
+            *self.wrong(value),
+        ]
+
+    def wrong(self, value: bool) -> list[Fact]:
+        """That an agent has another output; with a goal, that for each of its sets an agent is outside."""
+        if self.goal is None:
+            return [at_least(((self.count(q), 1) for q, b in enumerate(self.leaf.outputs) if b != value), -1)]
+        return [
+            at_least(((self.count(q), 1) for q in range(self.states) if q not in states), -1)
+            for states in sets_of(self.leaf, value, self.goal)
         ]
 
     def is_in_range(self, node: Node) -> bool:
@@ -130,7 +140,7 @@ class Space:
     def _present(self, p: int) -> Iterator[list[Fact]]:
         own = [(self.count(p), 1)]
         yield [equal(own)]
-        partners = self.leaf.partners[p]
+        partners = self.partners[p]
         alone = [at_least(own, -1)] + [equal([(self.count(q), 1)]) for q in sorted(partners) if q != p]
         yield alone + [equal(own, -1)] if p in partners else alone
 

@@ -13,7 +13,7 @@ import numpy as np
 from .facts import AT_LEAST, DIVIDES, EQUAL, HOLDS, NOT_DIVIDES, Fact, Space, FactKind
 from ..protocol.nets import Leaf
 from ..protocol.predicates import Predicate
-from .bundles import Node, Present, Siphon, Split, Trap, Twin
+from .bundles import Goal, Node, Present, Siphon, Split, Trap, Twin
 
 Array = Any
 
@@ -108,8 +108,8 @@ def holds(tree: Predicate, value: bool) -> Row:
 class Cases:
     """The variables of one leaf, its moves as arrays, and the cases of nodes."""
 
-    def __init__(self, leaf: Leaf) -> None:
-        self.leaf, self.space = leaf, Space(leaf)
+    def __init__(self, leaf: Leaf, goal: Goal | None = None) -> None:
+        self.leaf, self.space = leaf, Space(leaf, goal)
         self.inputs, self.states, self.moves = self.space.inputs, self.space.states, self.space.moves
         self.variables = self.space.variables
         self.first_move = self.inputs + self.states
@@ -119,9 +119,9 @@ class Cases:
 
     @cached_property
     def near(self) -> Array:
-        """Which states react with which, as a matrix."""
+        """Which states can't stand beside which at an end, as a matrix."""
         out = np.zeros((self.states, self.states), dtype=bool)
-        for p, states in enumerate(self.leaf.partners):
+        for p, states in enumerate(self.space.partners):
             out[p, list(states)] = True
         return out
 

@@ -13,7 +13,7 @@ from .names import Names
 from ..protocol.nets import Item, Leaf, Net
 from ..protocol.predicatereader import read_predicate
 from ..protocol.predicates import Predicate
-from .bundles import Bundle, LeafProof, Linear, Node, Open, Residue, Split, Term
+from .bundles import Bundle, LeafGoals, Linear, Node, Open, Part, Residue, Split, Term
 
 Starts = Mapping[str, str]
 
@@ -68,7 +68,7 @@ def moved_tree(
 
     `trees` are the predicate over the variables before and after; `variables` gives each old variable's new number.
     """
-    space, new = Space(after.leaf), Branch()
+    space, new = Space(after.leaf, after.goal), Branch()
     waiting = [(0, space.base(trees[1], value), after.base())]
     out: list[Node] = []
     for visit in visits(before, trees[0], value, nodes):
@@ -86,7 +86,7 @@ def moved_tree(
     return tuple(out)
 
 
-def widened(bundle: Bundle, at: int, names: Sequence[str], starts: Starts) -> tuple[Leaf, LeafProof]:
+def widened(bundle: Bundle, at: int, names: Sequence[str], starts: Starts) -> tuple[Leaf, Part]:
     """A leaf over more variables, those that it lacks starting where `starts` says, with its proof; InputFault or
     Lost."""
     leaf, part, own = bundle.net.leaves[at], bundle.proof[at], bundle.net.names
@@ -97,14 +97,25 @@ def widened(bundle: Bundle, at: int, names: Sequence[str], starts: Starts) -> tu
         else:
             inputs.append(_start(leaf, name, starts, at))
     wide = replace(leaf, inputs=tuple(inputs))
-    before, after = Names(own, leaf), Names(names, wide)
     trees = read_predicate(part.pred, own), read_predicate(part.pred, names)
     shift = len(names) - len(own)
     variables = [list(names).index(v) for v in own] + [
         a + shift for a in range(len(own), len(own) + len(leaf.states) + len(leaf.moves))
     ]
-    moved = [moved_tree(before, after, trees, value, part.tree(value), variables) for value in (True, False)]
-    return wide, replace(part, true=moved[0], false=moved[1])
+
+    def moved(value: bool) -> tuple[Node, ...]:
+        goal = part.goal(value)
+        before, after = Names(own, leaf, goal), Names(names, wide, goal)
+        return moved_tree(before, after, trees, value, part.tree(value), variables)
+
+    return wide, with_trees(part, moved(True), moved(False))
+
+
+def with_trees(part: Part, true: tuple[Node, ...], false: tuple[Node, ...]) -> Part:
+    """The same proof with these trees."""
+    if isinstance(part, LeafGoals):
+        return replace(part, on_true=replace(part.on_true, nodes=true), on_false=replace(part.on_false, nodes=false))
+    return replace(part, true=true, false=false)
 
 
 def _start(leaf: Leaf, name: str, starts: Starts, at: int) -> int:
@@ -142,7 +153,7 @@ def joined(word: str, first: Bundle, second: Bundle, starts: Starts) -> Bundle:
             f"the leaves of a net have equally many helpers, and these have {' and '.join(map(str, sorted(counts)))}"
         )
     leaves: list[Leaf] = []
-    parts: list[LeafProof] = []
+    parts: list[Part] = []
     for bundle in (first, second):
         for at in range(len(bundle.net.leaves)):
             leaf, part = widened(bundle, at, names, starts)

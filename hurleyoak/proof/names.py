@@ -8,7 +8,8 @@ from typing import Iterable, Sequence
 from .facts import AT_LEAST, DIVIDES, EQUAL, HOLDS, NOT_DIVIDES, Fact
 from ..protocol.nets import Leaf
 from ..protocol.predicates import And, Less, Not, Or, Rest, canonical_text
-from .bundles import Node, Open, Present, Siphon, Split, Term, Trap, Twin
+from .bundles import Goal, Node, Open, Present, Siphon, Split, Term, Trap, Twin
+from .ends import partners_of
 from ..protocol.naming import state_text
 
 NO_LABEL = ""
@@ -16,10 +17,10 @@ _ORDINAL = re.compile(r"/[0-9]+$")
 
 
 class Names:
-    """Names for one leaf of a net with these variables."""
+    """Names for one leaf of a net with these variables, and for a goal's tree where one is given."""
 
-    def __init__(self, variables: Sequence[str], leaf: Leaf) -> None:
-        self.variables, self.leaf = variables, leaf
+    def __init__(self, variables: Sequence[str], leaf: Leaf, goal: Goal | None = None) -> None:
+        self.variables, self.leaf, self.goal = variables, leaf, goal
 
     def state(self, q: int) -> str:
         """A state's name, or `state(9)` where there is no such state."""
@@ -28,6 +29,11 @@ class Names:
     def braces(self, states: Iterable[int]) -> str:
         """States in braces."""
         return "{" + ", ".join(self.state(q) for q in states) + "}"
+
+    @cached_property
+    def partners(self) -> tuple[frozenset[int], ...]:
+        """For each state those that it can't stand beside at an end."""
+        return partners_of(self.leaf, self.goal)
 
     @cached_property
     def _ordinals(self) -> list[int]:
@@ -75,8 +81,9 @@ class Names:
         return f"{text} {'>=' if fact.kind == AT_LEAST else '='} 0"
 
     def base(self) -> list[str]:
-        """The names of the base facts."""
-        return [*(f"flow({self.state(q)})" for q in range(len(self.leaf.states))), "agents", "predicate", "wrong"]
+        """The names of the base facts; a name that comes again gets a number by its branch."""
+        wrong = ["outside"] * len(self.goal.sets) if self.goal and self.goal.sets else ["wrong"]
+        return [*(f"flow({self.state(q)})" for q in range(len(self.leaf.states))), "agents", "predicate", *wrong]
 
     def cases(self, node: Node, facts: Sequence[Fact], names: Sequence[str]) -> list[tuple[str, list[str]]]:
         """The label of each case of a node that is in range, and the names of its facts; a node's only case has no
@@ -97,7 +104,7 @@ class Names:
         return []
 
     def _present(self, p: int) -> list[tuple[str, list[str]]]:
-        partners = self.leaf.partners[p]
+        partners = self.partners[p]
         here = [f"here({self.state(p)})"] + [f"absent({self.state(q)})" for q in sorted(partners) if q != p]
         return [
             ("absent", [f"absent({self.state(p)})"]),

@@ -9,12 +9,19 @@ from typing import Callable, Iterator
 from ..faults import InputFault
 from ..text.loaded import Loaded, predicates_differ
 from ..text.proofreader import ProofDraft
-from ..proof.bundles import Bundle, LeafProof
+from ..proof.bundles import Bundle, LeafGoals, LeafProof, Part
 from .flaws import Flaw
 from .howfar import Going
-from .jobs import FALSE, FLAW, LAYERS, TRUE, WHOLE, Result, Task, Why, results, work
+from .goaltasks import leaf_tasks, look_for_goals
+from .jobs import FALSE, FLAW, GOAL_FALSE, GOAL_TRUE, LAYERS, TRUE, WHOLE, Result, Task, TaskKind, Why, results, work
 
-ORDER = (Why.MISSES, Why.RESTLESS, Why.NO_LAYERS, Why.WRONG_END)  # which failure is told where there are several
+ORDER = (
+    Why.MISSES,
+    Why.RESTLESS,
+    Why.NO_LAYERS,
+    Why.NO_GOAL,
+    Why.WRONG_END,
+)  # which failure is told where there are several
 
 
 @dataclass
@@ -24,13 +31,16 @@ class Outcome:
     bundle: Bundle | None = None
     flaw: Flaw | None = None
     failures: list[Result] = field(default_factory=list)
-    done: dict[tuple[str, int], Result] = field(default_factory=dict)
+    done: dict[tuple[TaskKind, int], Result] = field(default_factory=dict)
     seconds: float = 0.0
 
     def told(self) -> list[str]:
         """What was found of each leaf, in a line."""
         out = []
         for i in range(1 + max(at for _, at in self.done)):
+            if (GOAL_TRUE, i) in self.done:
+                out += [f"leaf {i}: {_goal_told(self.done[kind, i])}" for kind in (GOAL_TRUE, GOAL_FALSE)]
+                continue
             layers, true, false = (self.done[kind, i] for kind in (LAYERS, TRUE, FALSE))
             bound = sum(layer.spread for layer in layers.layers)
             out.append(
@@ -39,6 +49,16 @@ class Outcome:
                 f" ({true.seconds:.1f} s, {false.seconds:.1f} s)"
             )
         return out
+
+
+def _goal_told(result: Result) -> str:
+    goal = result.goal
+    assert goal is not None
+    layers = f"{len(goal.layers)} layer{'' if len(goal.layers) == 1 else 's'}"
+    return (
+        f"{result.kind}: {layers} of {len(goal.listed)} moves, bound {goal.bound}; a tree of {len(goal.nodes)} nodes"
+        f" ({result.seconds:.1f} s)"
+    )
 
 
 def drafts_of(loaded: Loaded, anew: bool) -> list[ProofDraft]:
@@ -61,13 +81,18 @@ def tasks_of(loaded: Loaded, drafts: list[ProofDraft], seconds: float, small: fl
     tasks = [whole_task(loaded, seconds, small)]
     if len(both) > 1:
         tasks += [Task(FLAW, i, leaf, tree, seconds, small, net=net, whole=whole) for i, (leaf, tree) in both]
-    for i, (leaf, tree) in both:
-        tasks.append(Task(LAYERS, i, leaf, tree, seconds, small, layers=drafts[i].layers, net=net, whole=whole))
-        for kind in (TRUE, FALSE):
-            tasks.append(
-                Task(kind, i, leaf, tree, seconds, small, nodes=drafts[i].tree(kind == TRUE), net=net, whole=whole)
-            )
+    for task, draft in zip(shared_tasks(loaded, seconds, small), drafts):
+        tasks += leaf_tasks(task, draft)
     return tasks
+
+
+def shared_tasks(loaded: Loaded, seconds: float, small: float) -> list[Task]:
+    """For each leaf what its tasks share."""
+    trees, net, whole = loaded.part_trees(), loaded.net, loaded.whole_tree()
+    return [
+        Task(LAYERS, i, leaf, tree, seconds, small, net=net, whole=whole)
+        for i, (leaf, tree) in enumerate(zip(net.leaves, trees))
+    ]
 
 
 def whole_task(loaded: Loaded, seconds: float, small: float) -> Task:
@@ -100,14 +125,33 @@ def find(
             "the leaves' predicates combine to another tree than the whole predicate's (docs/guide/certificates.md,"
             ' "How a predicate becomes a tree")'
         )
-    tasks = tasks_of(loaded, drafts_of(loaded, anew), seconds, small)
+    drafts = drafts_of(loaded, anew)
+    tasks = tasks_of(loaded, drafts, seconds, small)
     # (before processes are made, so that they share what is loaded, and a missing package is told once)
     import_module(".highs", __package__)
     import_module(".layerjob", __package__)
     import_module(".treefinder", __package__)
+    import_module(".goaljob", __package__)
     if begins:
         begins(tasks)
     out = _done(tasks, results(tasks, jobs, going), came)
+    if out.flaw is None and out.failures:
+
+        def run(more: list[Task]) -> Iterator[Result]:
+            if begins and more:
+                begins(more)
+            for result in results(more, jobs, going):
+                if came:
+                    came(result)
+                yield result
+
+        shared = shared_tasks(loaded, seconds, small)
+        looked = look_for_goals(shared, drafts, out.failures, out.done, run)
+        out.flaw = looked.flaw
+        if looked.is_done:
+            out.failures = []
+        elif looked.failure is not None:
+            out.failures.insert(0, looked.failure)
     if out.flaw is None and not out.failures:
         out.bundle = _assembled(loaded, out)
     out.seconds = time.time() - start
@@ -135,8 +179,14 @@ def _done(tasks: list[Task], coming: Iterator[Result], came: Callable[[Result], 
 
 def _assembled(loaded: Loaded, out: Outcome) -> Bundle:
     assert loaded.parts is not None and loaded.predicate is not None
-    parts = [
-        LeafProof(text, tuple(out.done[LAYERS, i].layers), out.done[TRUE, i].tree, out.done[FALSE, i].tree)
-        for i, text in enumerate(loaded.parts)
-    ]
-    return Bundle(loaded.net, loaded.predicate, tuple(parts))
+    parts = tuple(_part(text, i, out) for i, text in enumerate(loaded.parts))
+    return Bundle(loaded.net, loaded.predicate, parts)
+
+
+def _part(text: str, at: int, out: Outcome) -> Part:
+    """What was found of a leaf, with goals or without."""
+    goals = [out.done[kind, at].goal for kind in (GOAL_TRUE, GOAL_FALSE) if (kind, at) in out.done]
+    if goals and goals[0] is not None and goals[1] is not None:
+        return LeafGoals(text, goals[0], goals[1])
+    layers, true, false = (out.done[kind, at] for kind in (LAYERS, TRUE, FALSE))
+    return LeafProof(text, tuple(layers.layers), true.tree, false.tree)

@@ -6,15 +6,15 @@ import os
 import signal
 import sys
 import threading
-from dataclasses import dataclass, field
+from dataclasses import dataclass, field, replace
 from enum import StrEnum
 from typing import Any, Callable, Iterator, Sequence
 
 from ..protocol.nets import Leaf, Net
 from ..protocol.predicates import Predicate
-from ..text.proofreader import LayerDraft
+from ..text.proofreader import GoalDraft, LayerDraft
 from ..text.treereader import DraftNode
-from ..proof.bundles import Layer, Tree
+from ..proof.bundles import Goal, Layer, Tree
 from .candidates import candidate_order, flaw_by, net_flaw_by
 from . import howfar
 from .explore import explore, by_arrays
@@ -31,9 +31,12 @@ class TaskKind(StrEnum):
     LAYERS = "layers"
     TRUE = "true"
     FALSE = "false"
+    GOAL_TRUE = "goal for true"
+    GOAL_FALSE = "goal for false"
 
 
 FLAW, LAYERS, TRUE, FALSE = TaskKind.FLAW, TaskKind.LAYERS, TaskKind.TRUE, TaskKind.FALSE
+GOAL_TRUE, GOAL_FALSE = TaskKind.GOAL_TRUE, TaskKind.GOAL_FALSE
 
 STACK_BYTES = 512 << 20
 DEEP = 200_000
@@ -54,8 +57,13 @@ class Task:
     small: float
     nodes: Sequence[DraftNode] | None = None
     layers: Sequence[LayerDraft] | None = None
+    goal: GoalDraft | None = None
     net: Net | None = None
     whole: Predicate | None = None
+
+    def like(self, kind: TaskKind, **parts: Any) -> "Task":
+        """A task of the same leaf with what is given of its part."""
+        return replace(self, kind=kind, **parts)
 
 
 class Why(StrEnum):
@@ -65,6 +73,7 @@ class Why(StrEnum):
     MISSES = "misses"
     WRONG_END = "wrong end"
     NO_LAYERS = "no layers"
+    NO_GOAL = "no goal"
     GAVE_UP = "gave up"
 
 
@@ -80,6 +89,7 @@ class Result:
     seconds: float = 0.0
     layers: list[Layer] = field(default_factory=list)
     tree: Tree = ()
+    goal: Goal | None = None
     flaw: Flaw | None = None
     missed: Flaw | None = None
     restless: Flaw | None = None
@@ -162,6 +172,19 @@ def _missed(task: Task, result: Result, missed: Flaw) -> None:
         result.why, result.missed = Why.MISSES, missed
 
 
+def _goal(task: Task, result: Result, deadline: float) -> None:
+    from .goaljob import NoGoal, fill_goal, find_goal
+
+    value = task.kind == GOAL_TRUE
+    try:
+        if task.goal is None or task.goal.layers is None:
+            result.goal = find_goal(task.leaf, task.tree, value, deadline, task.small)
+        else:
+            result.goal = fill_goal(task.leaf, task.tree, value, task.goal, task.nodes, deadline, task.small)
+    except NoGoal as none:
+        result.why, result.told = Why.NO_GOAL, str(none)
+
+
 def _small(task: Task, result: Result) -> None:
     """Small crowds: of the whole net, or of a leaf for its own predicate."""
     assert task.net is not None and task.whole is not None
@@ -190,6 +213,8 @@ def work(task: Task) -> Result:
         _small(task, result)
     elif task.kind == LAYERS:
         _layers(task, result, deadline)
+    elif task.kind in (GOAL_TRUE, GOAL_FALSE):
+        _goal(task, result, deadline)
     else:
         _tree(task, result, deadline)
     result.seconds = clock() - start

@@ -151,7 +151,13 @@ class LayerFinder:
         return True
 
     def groups(self, rng: random.Random | None) -> list[Moves] | None:
-        """The groups from first to last, by peeling; with `rng` in a random order of choices."""
+        """The groups from first to last, by peeling; with `rng` in a random order of choices. None where moves are
+        left."""
+        out = self.some_groups(rng)
+        return out if sum(map(len, out)) == len(self.leaf.active) else None
+
+    def some_groups(self, rng: random.Random | None) -> list[Moves]:
+        """The same as far as peeling goes: what is left wakes none of them."""
         done: Moves = frozenset()
         every = frozenset(self.leaf.active)
         out: list[Moves] = []
@@ -159,7 +165,7 @@ class LayerFinder:
             rest = every - done
             layer = rest if self.weights(rest) is not None else self._peeled(done, rest, rng)
             if not layer:
-                return None
+                break
             out.append(layer)
             done |= layer
             if rng is None:

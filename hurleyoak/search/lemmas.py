@@ -112,7 +112,7 @@ class Lemmas(Branch):
     def _smaller_trap(self, states: States, moves: Sequence[int], point: Array, taken: Sequence[int]) -> States:
         """A smaller trap that does the same, as its last case says more. First comes a least one by the moves alone,
         then one that keeps the inputs' states. Then blocks of states are left out, half of them first."""
-        order = sorted(states, key=lambda q: (len(self.cases.leaf.partners[q]), q))
+        order = sorted(states, key=lambda q: (len(self.cases.space.partners[q]), q))
         bare: States = frozenset()
 
         def less(now: States, out: Iterable[int]) -> States:
@@ -158,7 +158,7 @@ class Lemmas(Branch):
             return []
         found = {most}
         orders: list[Sequence[int]] = [
-            sorted(everything, key=lambda q: len(self.cases.leaf.partners[q])),
+            sorted(everything, key=lambda q: len(self.cases.space.partners[q])),
             everything,
             everything[::-1],
         ]

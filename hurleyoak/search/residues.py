@@ -150,7 +150,9 @@ class Residues:
             bare, _ = _howell(
                 np.concatenate([columns, np.eye(len(rows), dtype=np.int64)], axis=1), columns.shape[1], m
             )
-            made = np.array(bare, dtype=np.int64).reshape(len(bare), -1)[:, columns.shape[1] :]
+            made = np.array(bare, dtype=np.int64).reshape(len(bare), columns.shape[1] + len(rows))[
+                :, columns.shape[1] :
+            ]
             self._bare[key] = list(rows), made  # (the rows are kept, so that no other one gets the same id)
         return self._bare[key][1]
 

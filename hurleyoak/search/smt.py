@@ -11,7 +11,7 @@ from __future__ import annotations
 from enum import Enum
 from fractions import Fraction
 from importlib.util import find_spec
-from typing import Any, Iterator
+from typing import Any, Iterator, Sequence
 
 import numpy as np
 
@@ -164,19 +164,22 @@ def has_z3() -> bool:
     return find_spec("z3") is not None
 
 
-def layers_by_smt(finder: LayerFinder, deadline: float) -> tuple[Answer, list[Moves]]:
-    """Layers; or that there are none, of whatever number; or neither in this time (or without z3)."""
+def layers_by_smt(finder: LayerFinder, deadline: float, begun: Sequence[Moves] = ()) -> tuple[Answer, list[Moves]]:
+    """Layers, the first of which are `begun`; or that there are none, of whatever number; or neither in this time (or
+    without z3). Where there are none for all moves, those that there are are given: no other move wakes them."""
     try:
         import z3
     except ImportError:
-        return UNKNOWN, []
+        return UNKNOWN, list(begun)
     program = _Program(z3, finder)
-    out: list[Moves] = []
-    rest = list(finder.leaf.active)
+    out = list(begun)
+    for group in begun:
+        program.keep(sorted(group))
+    rest = sorted(frozenset(finder.leaf.active).difference(*begun))
     while rest:
         answer, layer = program.layer(rest, deadline)
         if answer != FOUND:
-            return answer, []
+            return answer, out
         program.keep(layer)
         out.append(frozenset(layer))
         rest = sorted(set(rest) - set(layer))

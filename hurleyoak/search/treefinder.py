@@ -6,7 +6,7 @@ from typing import Sequence
 from ..protocol.nets import Leaf
 from ..protocol.predicates import Predicate
 from ..text.treereader import DraftNode
-from ..proof.bundles import Hole, Tree
+from ..proof.bundles import Goal, Hole, Tree
 from .branch import FLOATS, GaveUp, WrongEnd, greatest_number
 from ..proof.items import Cases
 from .limits import Limit
@@ -73,15 +73,22 @@ def _smallest(
 
 
 def find_tree(
-    leaf: Leaf, tree: Predicate, value: bool, nodes: Sequence[DraftNode] | None, deadline: float, small: float
+    leaf: Leaf,
+    tree: Predicate,
+    value: bool,
+    nodes: Sequence[DraftNode] | None,
+    deadline: float,
+    small: float,
+    goal: Goal | None = None,
 ) -> Tree:
-    """The nodes for a value of the predicate, those that are given kept; or WrongEnd, GaveUp or Trouble.
+    """The nodes for a value of the predicate, those that are given kept; or WrongEnd, GaveUp or Trouble. With a goal
+    they are for its layers and sets.
 
     Where all of the tree is to be found, up to `small` seconds of this process's work then make it smaller.
     """
     limit = Limit(deadline)
     more = limit.after(small * 3 / 4)
-    cases = Cases(leaf)
+    cases = Cases(leaf, goal)
     given: Sequence[DraftNode] = nodes if nodes is not None else [Hole()]
     exact = greatest_number(tree) > FLOATS
     found = _searched(cases, tree, value, given, limit, WAYS[0], exact)

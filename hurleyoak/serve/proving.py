@@ -73,7 +73,9 @@ def check_task(request: Request, tell: Tell) -> dict[str, Any]:
 
 def _told_result(result: Result) -> dict[str, Any]:
     told = result.reason or (
-        f"{len(result.layers)} layer{'' if len(result.layers) == 1 else 's'}"
+        f"{len(result.goal.listed)} moves in layers, {len(result.goal.nodes)} nodes"
+        if result.goal
+        else f"{len(result.layers)} layer{'' if len(result.layers) == 1 else 's'}"
         if result.layers
         else f"{len(result.tree)} nodes"
         if result.tree

@@ -3,11 +3,13 @@ from __future__ import annotations
 
 from typing import Iterator, Sequence
 
-from .explaining import Explanation, ToldFact, ToldLayer, ToldLeaf, ToldNode
+from .explaining import Explanation, ToldFact, ToldLayer, ToldNode
+from .goals import ToldGoal
 from .onelayer import one_layer_told
 from ..protocol.nets import compact
-from ..proof.bundles import node_value
-from ..text.writer import STEP, combine_text, derived_text, head, layer_lines, leaf_lines
+from ..proof.bundles import Layer, node_value
+from ..proof.names import Names
+from ..text.writer import STEP, combine_text, derived_text, head, keeps_lines, layer_lines, leaf_lines
 
 FACTS_SHOWN = 24
 MARK = ">>>"
@@ -110,10 +112,10 @@ def _has_cases(node: ToldNode) -> bool:
     return not node.closes and not node.refused and not node.is_open
 
 
-def layer_table(told: ToldLeaf, at: int) -> list[str]:
+def layer_table(names: Names, layers: Sequence[Layer], told: Sequence[ToldLayer], at: int) -> list[str]:
     """A layer's lines, each move with the weights before and after it."""
-    layer: ToldLayer = told.layers[at]
-    lines = layer_lines(told.names, told.part.layers, at)
+    layer = told[at]
+    lines = layer_lines(names, layers, at)
     if not layer.is_shaped:
         return lines
     lines[0] = beside(
@@ -135,23 +137,45 @@ def layer_table(told: ToldLeaf, at: int) -> list[str]:
     return lines
 
 
+def layer_tables(names: Names, layers: Sequence[Layer], told: Sequence[ToldLayer]) -> Iterator[str]:
+    """The lines of all layers."""
+    if not layers:
+        yield head("layers", "none")
+    for at in range(len(layers)):
+        yield from layer_table(names, layers, told, at)
+
+
+def refusals(notes: Sequence[str], fault: str, lacks: Sequence[str]) -> Iterator[str]:
+    """What is refused, in comments."""
+    for line in [*notes, *([f"refused: {fault}"] if fault else []), *lacks]:
+        yield f"# {MARK} {line}"
+
+
+def goal_block(told: ToldGoal, notes: Sequence[str]) -> Iterator[str]:
+    """The lines of a goal before its nodes, with what is reached, why it stays and what goes on."""
+    yield from layer_tables(told.names, told.goal.layers, told.layers)
+    for states in told.goal.sets:
+        yield from keeps_lines(told.names, states)
+    yield from refusals(notes, told.fault, told.lacks)
+    yield from (f"# {line}" for line in told.lines())
+
+
 def leaf_block(explanation: Explanation, at: int, everything: bool) -> Iterator[str]:
     """The lines of a leaf, its layers and its trees."""
     told = explanation.leaves[at]
     yield from leaf_lines(explanation.bundle.net, told.leaf)
     yield head("computes", told.part.pred)
-    yield ""
-    for layer in range(len(told.layers)):
-        yield from layer_table(told, layer)
-    if not told.layers:
-        yield head("layers", "none")
-    for line in [*told.notes, *([f"refused: {told.layer_fault}"] if told.layer_fault else []), *told.layer_lacks]:
-        yield f"# {MARK} {line}"
+    if told.plain_layers is not None:
+        yield ""
+        yield from layer_tables(told.names, told.plain_layers, told.layers)
+        yield from refusals([*told.notes], told.layer_fault, told.layer_lacks)
     if told.layers and not told.layer_fault:
         yield f"# bound: {sum(layer.bound for layer in told.layers)} steps for each agent"
     for value in (True, False):
         yield ""
         yield f"when {str(value).lower()}"
+        if value in told.goals:
+            yield from (" " * STEP + line for line in goal_block(told.goals[value], told.notes))
         nodes = explanation.tree(at, value)
         yield from tree_lines(nodes, everything)
         if nodes and nodes[-1].refused == "rest":

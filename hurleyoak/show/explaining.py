@@ -4,7 +4,7 @@ The first line is the proved program's; all else is the workbench's own reading 
 """
 from __future__ import annotations
 
-from dataclasses import dataclass, field
+from dataclasses import dataclass, field, replace
 
 from ..proof.branches import Visit, visits
 from ..proof.checking import LayerFault, layer_fault, verdict
@@ -14,12 +14,15 @@ from ..proof.names import Names
 from ..protocol.nets import Leaf
 from ..protocol.predicatereader import read_predicate
 from ..protocol.predicates import Predicate, canonical_text
-from ..text.proofreader import ProofDraft
+from ..text.proofreader import GoalDraft, ProofDraft
 from ..text.treereader import Note
 from ..protocol.combining import combined_predicate
-from ..proof.bundles import Bundle, Hole, Layer, LeafProof, Linear, Node, Residue
+from ..proof.bundles import Bundle, Goal, Hole, Layer, LeafGoals, LeafProof, Linear, Node, Part, Residue
 from ..protocol.naming import state_text
 from ..text.writer import leaf_names, node_lines
+from .goals import ToldGoal, told_goal
+from .layers import ToldLayer as ToldLayer
+from .layers import told_layer
 from .reasons import closes_told, gloss, layer_lacks, node_lacks, sum_told
 
 ROOM = 100
@@ -54,49 +57,38 @@ class ToldNode:
 
 
 @dataclass
-class ToldMove:
-    """A move of a layer: weights before and after."""
-
-    number: int
-    name: str
-    before: tuple[int, int]
-    after: tuple[int, int]
-    silent: bool
-
-    @property
-    def lowers(self) -> int:
-        """How much it lowers the weights."""
-        return sum(self.before) - sum(self.after)
-
-
-@dataclass
-class ToldLayer:
-    """A layer: its weights by state, its moves, what each agent pays for it; `raw` where it is malformed."""
-
-    weights: list[tuple[str, int]]
-    moves: list[ToldMove]
-    bound: int
-    is_shaped: bool
-
-
-@dataclass
 class ToldLeaf:
     """A leaf with its proof."""
 
     leaf: Leaf
-    part: LeafProof
+    part: Part
     names: Names
     tree: Predicate
-    layers: list[ToldLayer]
+    layers: list[ToldLayer] = field(default_factory=list)
     layer_fault: str = ""
     layer_lacks: list[str] = field(default_factory=list)
+    goals: dict[bool, ToldGoal] = field(default_factory=dict)
     notes: list[str] = field(default_factory=list)
+
+    @property
+    def lacks(self) -> list[str]:
+        """What is wrong with its layers, or with the layers or sets of its first goal that is refused."""
+        return next((goal.lacks for goal in self.goals.values() if goal.fault), self.layer_lacks)
+
+    @property
+    def plain_layers(self) -> tuple[Layer, ...] | None:
+        """The layers of a leaf that falls silent; None where it has goals."""
+        return self.part.layers if isinstance(self.part, LeafProof) else None
+
+    def names_for(self, value: bool) -> Names:
+        """The names for the tree of a value."""
+        return self.goals[value].names if value in self.goals else self.names
 
     def nodes(self, value: bool, notes: list[Note], holes: set[int]) -> "list[ToldNode]":
         """The nodes of a tree, up to the first one that is refused for its shape."""
         return [
-            _node(self.names, visit, notes, holes)
-            for visit in visits(self.names, self.tree, value, self.part.tree(value))
+            _node(self.names_for(value), visit, notes, holes)
+            for visit in visits(self.names_for(value), self.tree, value, self.part.tree(value))
         ]
 
 
@@ -138,50 +130,43 @@ def _node(names: Names, visit: Visit, notes: list[Note], holes: set[int]) -> Tol
         ]
     if visit.why:
         told.refused = visit.why
-        told.lacks = node_lacks(names, Space(names.leaf), branch.facts, branch.names, node, visit.why)
+        told.lacks = node_lacks(names, Space(names.leaf, names.goal), branch.facts, branch.names, node, visit.why)
     elif isinstance(node, (Linear, Residue)):
         told.sum = sum_told(names, branch.facts, node)
         told.closes = closes_told(names, branch.facts, node)
     return told
 
 
-def _layer(names: Names, leaf: Leaf, layer: Layer) -> ToldLayer:
-    shaped = len(layer.weights) == len(leaf.states) and all(t < len(leaf.moves) for t in layer.moves)
-    weights = [(names.state(q), w) for q, w in enumerate(layer.weights)]
-    moves = []
-    if shaped:
-        for t in layer.moves:
-            p, q, r, s = leaf.moves[t]
-            w = layer.weights
-            moves.append(ToldMove(t, names.move(t), (w[p], w[q]), (w[r], w[s]), t not in leaf.active))
-    return ToldLayer(weights, moves, layer.spread, shaped)
-
-
 def _leaf(bundle: Bundle, at: int, draft: ProofDraft | None) -> ToldLeaf:
     leaf, part = bundle.net.leaves[at], bundle.proof[at]
     names = Names(bundle.net.names, leaf)
-    told = ToldLeaf(
-        leaf,
-        part,
-        names,
-        read_predicate(part.pred, bundle.net.names),
-        [_layer(names, leaf, layer) for layer in part.layers],
-    )
-    fault: LayerFault | None = layer_fault(leaf, part.layers)
-    if fault:
-        told.layer_fault, told.layer_lacks = fault.words(), layer_lacks(names, leaf, part.layers, fault)
+    told = ToldLeaf(leaf, part, names, read_predicate(part.pred, bundle.net.names))
+    if isinstance(part, LeafProof):
+        told.layers = [told_layer(names, leaf, layer) for layer in part.layers]
+        fault: LayerFault | None = layer_fault(leaf, part.layers)
+        if fault:
+            told.layer_fault, told.layer_lacks = fault.words(), layer_lacks(names, leaf, part.layers, fault)
+    else:
+        for value in (True, False):
+            goal = part.goal(value)
+            told.goals[value] = told_goal(Names(bundle.net.names, leaf, goal), leaf, value, goal)
     if draft:
         told.notes = [f"{note.told}: left out (line {note.place.line})" for note in draft.notes if note.tree is None]
     return told
 
 
-def _closed_holes(draft: ProofDraft, text: str, states: int) -> LeafProof:
+def _closed_holes(draft: ProofDraft, text: str, states: int) -> Part:
     """A draft as a proof: open weights are 0, an open subtree is a `lin` without a fact, open layers and trees are
     empty."""
+
+    def goal(value: bool) -> Goal:
+        return replace((draft.goal(value) or GoalDraft()).for_tree(states), nodes=tree(value))
 
     def tree(value: bool) -> tuple[Node, ...]:
         return tuple(Linear(()) if isinstance(n, Hole) else n for n in draft.tree(value) or [])
 
+    if draft.goals is not None:
+        return LeafGoals(text, goal(True), goal(False))
     layers = [Layer(layer.moves, layer.weights or (0,) * states) for layer in draft.layers or []]
     return LeafProof(text, tuple(layers), tree(True), tree(False))
 

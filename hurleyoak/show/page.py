@@ -9,7 +9,7 @@ from .modules import one_script, web_file
 from .onefile import data, policy
 from .onelayer import one_layer_told
 from .pagestyle import SCRIPT, STYLE
-from .values import explanation_value
+from .values import GOOD, explanation_value
 
 
 def _script() -> str:
@@ -18,7 +18,7 @@ def _script() -> str:
 
 def page(explanation: Explanation) -> str:
     """The whole page: nothing in it is fetched from elsewhere. Without scripts it shows the text."""
-    good = explanation.line.startswith("certified")
+    good = explanation.line.startswith(GOOD)
     style, script = web_file("colours.css") + web_file("proof.css") + STYLE, _script()
     parts = [
         '<!doctype html><html lang="en"><head><meta charset="utf-8">',

@@ -16,6 +16,7 @@ GLOSSES = {
     "agents": "two agents at least",
     "predicate": "it is used once it is opened",
     "wrong": "somebody is wrong",
+    "outside": "an agent is outside of the set",
     "value": "what the predicate says of the input",
     "absent": "no agent is in the state",
     "here": "an agent is in the state",
@@ -43,7 +44,8 @@ def gloss(name: str) -> str:
     return GLOSSES.get(head, "")
 
 
-def _few(texts: Sequence[str]) -> str:
+def few(texts: Sequence[str]) -> str:
+    """The first texts, and how many more there are."""
     more = f" and {len(texts) - SHOWN} more" if len(texts) > SHOWN else ""
     return ", ".join(texts[:SHOWN]) + more
 
@@ -83,7 +85,7 @@ def _linear_lacks(names: Names, facts: Sequence[Fact], fact_names: Sequence[str]
     left = names.sum([(a, k) for a, k in sorted(coefficients.items()) if k], constant)
     positive = [f"`{names.variable(a)}`" for a, k in sorted(coefficients.items()) if k > 0]
     if positive:
-        out.append(f"{_few(positive)} {'is' if len(positive) == 1 else 'are'} still positive: {left}")
+        out.append(f"{few(positive)} {'is' if len(positive) == 1 else 'are'} still positive: {left}")
     if constant > -1:
         out.append(f"the constant is {constant}, and has to be -1 or less: {left}")
     return out
@@ -104,7 +106,7 @@ def _residue_lacks(names: Names, facts: Sequence[Fact], fact_names: Sequence[str
     left = names.sum([(a, k) for a, k in sorted(coefficients.items()) if k], constant)
     odd = [f"`{names.variable(a)}`" for a, k in sorted(coefficients.items()) if k % m]
     if odd:
-        out.append(f"{m} doesn't divide the coefficient of {_few(odd)}: {left}")
+        out.append(f"{m} doesn't divide the coefficient of {few(odd)}: {left}")
     else:
         out.append(f"{m} divides the constant too: {left}")
     if any(fact.kind == NOT_DIVIDES and fact.modulus == m for fact in facts):
@@ -116,13 +118,13 @@ def _index_lacks(space: Space, facts: Sequence[Fact], node: Node) -> list[str]:
     if isinstance(node, (Linear, Residue, Open)):
         numbers = [node.fact] if isinstance(node, Open) else [n for n, _ in node.terms]
         bad = [str(n) for n in numbers if n >= len(facts)]
-        return [f"there is no fact {_few(bad)}: this branch has the facts 0 to {len(facts) - 1}"]
+        return [f"there is no fact {few(bad)}: this branch has the facts 0 to {len(facts) - 1}"]
     if isinstance(node, Split):
         bad = [str(a) for a, _ in node.terms if a >= space.variables]
-        return [f"there is no variable {_few(bad)}: this leaf has the variables 0 to {space.variables - 1}"]
+        return [f"there is no variable {few(bad)}: this leaf has the variables 0 to {space.variables - 1}"]
     states = [node.state] if isinstance(node, (Present, Twin)) else list(node.states)
     bad = [str(q) for q in states if q >= space.states]
-    return [f"there is no state {_few(bad)}: this leaf has the states 0 to {space.states - 1}"]
+    return [f"there is no state {few(bad)}: this leaf has the states 0 to {space.states - 1}"]
 
 
 def node_lacks(
@@ -146,7 +148,7 @@ def node_lacks(
         ]
     if why == "not-open" and isinstance(node, Open):
         there = [fact_names[i] for i, fact in enumerate(facts) if fact.kind == HOLDS]
-        return [f"`{named(node.fact, fact_names)}` doesn't say what value a predicate has; these do: {_few(there)}"]
+        return [f"`{named(node.fact, fact_names)}` doesn't say what value a predicate has; these do: {few(there)}"]
     if why == "too-deep":
         return ["a node has at most 4,095 nodes above it"]
     return ["a case would get more than 65,536 facts"]

@@ -77,7 +77,15 @@ def _names(net: Net, flaw: Flaw) -> Names:
     return Names(net.names, flaw.leaf)
 
 
-def restless_told(net: Net, tree: Predicate, text: str, flaw: Flaw, tried: Tried | None) -> str:
+OFFERED = "Goals can certify it: `pop find` looks for them"
+LOOKED = (
+    'Goals can certify such a protocol, and `find` found none (docs/guide/certificates.md, "Goals"). What helps: leave'
+    " out the moves that go round, or let them need a state that they use up. Or write the layers of a goal, and `?` for"
+    " its tree"
+)
+
+
+def restless_told(net: Net, tree: Predicate, text: str, flaw: Flaw, tried: Tried | None, advice: str = LOOKED) -> str:
     """A crowd whose outputs are at rest while its agents change for ever: what it means, and what else was tried."""
     names = _names(net, flaw)
     want = str(value_at(tree, flaw.counts)).lower()
@@ -98,9 +106,7 @@ def restless_told(net: Net, tree: Predicate, text: str, flaw: Flaw, tried: Tried
         )
     lines.append(
         "The workbench alone says all of this, as it tried all crowds. In the literature such a protocol is right, as"
-        " its outputs come to rest. A certificate also asks that every crowd can come to rest"
-        ' (docs/guide/certificates.md, "What can be certified"). What helps: leave out the moves that go round, or let'
-        " them need a state that they use up"
+        f" its outputs come to rest. {advice}"
     )
     return "\n".join(lines)
 
@@ -163,6 +169,11 @@ def failure_told(loaded: Loaded, result: Result) -> str:
         return who + _misses(names, net, result, text)
     if result.why == Why.NO_LAYERS:
         return who + _no_layers(names, result)
+    if result.why == Why.NO_GOAL:
+        return (
+            f"{who}{result.kind}: {result.told}. What helps: write the goal's layers or its sets, and `?` for the tree"
+            ' (docs/guide/certificates.md, "Goals")'
+        )
     if result.why == Why.GAVE_UP:
         advice = (
             "Give it more time by --seconds, or write a part of the proof yourself and `?` for the rest"
@@ -209,8 +220,8 @@ def _no_layers(names: Names, result: Result) -> str:
     return (
         told
         + "\nWhat helps: let one of them need a state that the others don't bring back. Or merge leaders or helpers"
-        " first, by moves of their own. Or leave out a move that isn't needed. A protocol whose agents change forever"
-        " has no layers, and can't be certified"
+        " first, by moves of their own. Or leave out a move that isn't needed. A protocol without layers needs goals, and"
+        " `find` found none"
     )
 
 

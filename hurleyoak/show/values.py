@@ -5,11 +5,12 @@ from __future__ import annotations
 from typing import Any, Sequence
 
 from .explaining import Explanation, ToldFact, ToldLayer, ToldLeaf, ToldNode
+from .goals import ToldGoal
 from ..engine.program import Answer
 from ..proof.bundles import Linear, Residue
 from ..text.writer import combine_text
 
-CERTIFIED = "certified"
+GOOD = ("certified ", "stable ")
 
 
 def _fact(fact: ToldFact) -> list[Any]:
@@ -60,6 +61,16 @@ def _layer(layer: ToldLayer) -> dict[str, Any]:
     }
 
 
+def _goal(told: ToldGoal) -> dict[str, Any]:
+    """A goal but for its tree."""
+    return {
+        "layers": [_layer(layer) for layer in told.layers],
+        "told": told.lines(),
+        "fault": told.fault,
+        "lacks": told.lacks,
+    }
+
+
 def _leaf(told: ToldLeaf, label: str, names: Sequence[str], trees: dict[str, Any]) -> dict[str, Any]:
     leaf = told.leaf
     return {
@@ -72,6 +83,7 @@ def _leaf(told: ToldLeaf, label: str, names: Sequence[str], trees: dict[str, Any
         "layers": [_layer(layer) for layer in told.layers],
         "layerFault": told.layer_fault,
         "layerLacks": [*told.notes, *told.layer_lacks],
+        "goals": {str(value).lower(): _goal(goal) for value, goal in told.goals.items()},
         **trees,
     }
 
@@ -92,7 +104,7 @@ def explanation_value(explanation: Explanation) -> dict[str, Any]:
     ]
     return {
         "line": explanation.line,
-        "good": explanation.line.startswith(f"{CERTIFIED} "),
+        "good": explanation.line.startswith(GOOD),
         "predicate": explanation.bundle.pred,
         "combine": combine_text(net.combine, explanation.labels) if len(net.leaves) > 1 else "",
         "notes": [*explanation.differs, *explanation.predicate],

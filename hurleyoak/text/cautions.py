@@ -6,7 +6,7 @@ from typing import Sequence
 from ..proof.names import Names
 from ..protocol.laws import LAWS_TOLD, PLAIN
 from ..protocol.nets import Leaf, Net, pair
-from ..proof.bundles import Bundle
+from ..proof.bundles import Bundle, LeafGoals
 from .scanner import Place
 
 
@@ -51,6 +51,8 @@ def slow_pairs(bundle: Bundle) -> list[str]:
     does."""
     out = []
     for i, (leaf, part) in enumerate(zip(bundle.net.leaves, bundle.proof)):
+        if isinstance(part, LeafGoals):
+            continue
         undone: dict[tuple[tuple[int, int], ...], int] = {}
         names = Names(bundle.net.names, leaf)
         for layer in part.layers:

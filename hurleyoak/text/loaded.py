@@ -5,7 +5,7 @@ from dataclasses import dataclass, field
 from typing import Sequence, TypeAlias
 
 from ..faults import InputFault
-from ..proof.bundles import Bundle, LeafProof
+from ..proof.bundles import Bundle
 from ..protocol.combining import combined_predicate
 from ..protocol.nets import Net
 from ..protocol.predicatereader import read_predicate
@@ -128,8 +128,8 @@ def bundle_from_drafts(loaded: Loaded) -> Bundle:
     assert loaded.drafts is not None and loaded.parts is not None and loaded.predicate is not None
     parts = []
     for draft, text in zip(loaded.drafts, loaded.parts):
-        got = finished(draft)
-        if got is None:
+        part = finished(draft, text)
+        if part is None:
             place: Place = draft.holes[0]
             told = (
                 "this part of the proof is to be found: `bin/pop find` looks for it"
@@ -137,7 +137,7 @@ def bundle_from_drafts(loaded: Loaded) -> Bundle:
                 else "this leaf has no proof: `bin/pop find` looks for one"
             )
             raise place.fault(told).of_input(loaded.name)
-        parts.append(LeafProof(text, *got))
+        parts.append(part)
     return Bundle(loaded.net, loaded.predicate, tuple(parts))
 
 

@@ -11,9 +11,11 @@ from ..protocol.nets import HELPER_LIMIT, LEAF_LIMIT, MOVE_LIMIT
 from .popsections import (
     ANY,
     FILE_WORDS,
+    GOAL_WORDS,
     HOLE,
     LEAF_WORDS,
     WILDCARD,
+    GoalText,
     LayerText,
     LeafText,
     MoveText,
@@ -223,28 +225,51 @@ class _Reader:
         return out
 
     def proof_line(self, word: str, line: Line, leaf: LeafText, place: Place) -> None:
+        if word != "when":
+            self.layers_line(word, line, leaf, place)
+            return
+        value = line.takes("true", "false")
+        if not value:
+            raise line.fault("`true` or `false`")
+        if (value == "true") in leaf.trees:
+            raise place.fault(f"a tree for {value} was there before")
+        tree = TreeText(place, is_hole=bool(line.takes(HOLE)))
+        line.takes(":")
+        if not tree.is_hole:
+            self.goal_lines(line, tree.goal)
+        tree.lines = self.block(line)
+        if tree.is_hole and tree.lines:
+            raise tree.lines[0].fault("nothing below `?`")
+        leaf.trees[value == "true"] = tree
+
+    def layers_line(self, word: str, line: Line, to: LeafText | GoalText, place: Place) -> None:
+        """A line `layers` or `layer`, of a leaf or of a goal."""
         if word == "layers":
             if not line.takes(HOLE):
                 line.needs("none", "`?`, for layers that are to be found, or `none`")
-                leaf.layers = []
+                to.layers = []
             else:
-                leaf.layers_hole = True
-        elif word == "layer":
-            if leaf.layers is None:
-                leaf.layers = []
-            leaf.layers.append(self.layer(line, place))
+                to.layers_hole = True
         else:
-            value = line.takes("true", "false")
-            if not value:
-                raise line.fault("`true` or `false`")
-            if (value == "true") in leaf.trees:
-                raise place.fault(f"a tree for {value} was there before")
-            tree = TreeText(place, is_hole=bool(line.takes(HOLE)))
-            line.takes(":")
-            tree.lines = self.block(line)
-            if tree.is_hole and tree.lines:
-                raise tree.lines[0].fault("nothing below `?`")
-            leaf.trees[value == "true"] = tree
+            if to.layers is None:
+                to.layers = []
+            to.layers.append(self.layer(line, place))
+
+    def goal_lines(self, head: Line, goal: GoalText) -> None:
+        """The lines of a goal below `when`, as far as they go."""
+        while self.next < len(self.lines) and self.lines[self.next].indent > head.indent:
+            line = self.lines[self.next]
+            place, at = line.start(), line.at
+            word = line.matches(WORD) or ""
+            if word not in GOAL_WORDS:
+                line.at = at
+                return
+            self.next += 1
+            if word == "keeps":
+                goal.keeps.append(line)
+            else:
+                self.layers_line(word, line, goal, place)
+                line.must_end()
 
     def layer(self, line: Line, place: Place) -> LayerText:
         layer = LayerText(place, is_hole=bool(line.takes(HOLE)))

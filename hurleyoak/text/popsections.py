@@ -10,6 +10,7 @@ from .scanner import Line, Place
 
 FILE_WORDS = ("format", "variables", "predicate", "combine", "leaf", "assume")
 LEAF_WORDS = ("states", "inputs", "helpers", "yes", "no", "computes", "layers", "layer", "when")
+GOAL_WORDS = ("layers", "layer", "keeps")  # below `when`, before the nodes
 WILDCARD = "*"
 # what stands for it in place of a name: no state's name has a blank
 ANY = " *"
@@ -56,12 +57,27 @@ class LayerText:
 
 
 @dataclass
+class GoalText:
+    """What stands below `when` before the nodes: layers, and the sets of lines `keeps`."""
+
+    layers: list[LayerText] | None = None
+    layers_hole: bool = False
+    keeps: list[Line] = field(default_factory=list)
+
+    @property
+    def is_there(self) -> bool:
+        """Whether any of it is written."""
+        return self.layers is not None or self.layers_hole or bool(self.keeps)
+
+
+@dataclass
 class TreeText:
-    """The lines of a tree, or `?` for one to be found."""
+    """The lines of a tree, or `?` for one to be found; behind those of a goal, where it has one."""
 
     place: Place
     lines: list[Line] = field(default_factory=list)
     is_hole: bool = False
+    goal: GoalText = field(default_factory=GoalText)
 
 
 @dataclass

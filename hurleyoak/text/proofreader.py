@@ -2,17 +2,22 @@
 from __future__ import annotations
 
 from dataclasses import dataclass, field
-from typing import Sequence
+from typing import Sequence, Union
 
 from .jsontext import read_json
 from ..proof.names import Names
 from .madeleaf import MadeLeaf, move_number
 from ..protocol.nets import FormatFault
-from .popsections import LayerText, LeafText, MoveText, Named
+from .popsections import HOLE, GoalText, LayerText, LeafText, MoveText, Named, TreeText
+from ..limits import SET_LIMIT
 from ..protocol.predicates import Predicate
-from ..proof.bundles import Hole, Layer, Node, layer_of
+from ..proof.bundles import Goal, Hole, Layer, LeafGoals, LeafProof, Node, Part, layer_of
+from .factnames import LeafReader, Unknown
 from .scanner import Place
 from .treereader import DraftNode, Note, TreeReader
+
+
+Layered = Union[LeafText, GoalText]
 
 
 @dataclass
@@ -24,13 +29,27 @@ class LayerDraft:
 
 
 @dataclass
+class GoalDraft:
+    """A goal in which parts may be open: `layers` None where all of them are. Its nodes are those of the draft."""
+
+    layers: list[LayerDraft] | None = None
+    sets: tuple[tuple[int, ...], ...] = ()
+
+    def for_tree(self, states: int) -> Goal:
+        """The goal as a tree asks for it, which looks at the moves of layers alone."""
+        layers = [Layer(layer.moves, layer.weights or (0,) * states) for layer in self.layers or []]
+        return Goal(tuple(layers), self.sets, ())
+
+
+@dataclass
 class ProofDraft:
     """A leaf's proof in which parts may be open: `layers` None where all of them are, a tree None where all of it
-    is."""
+    is. With `goals` it has none but theirs; a goal that isn't there is to be found."""
 
     layers: list[LayerDraft] | None = None
     true: list[DraftNode] | None = None
     false: list[DraftNode] | None = None
+    goals: dict[bool, GoalDraft] | None = None
     notes: list[Note] = field(default_factory=list)
     holes: list[Place] = field(default_factory=list)
     is_given: bool = False
@@ -43,6 +62,17 @@ class ProofDraft:
     def tree(self, value: bool) -> list[DraftNode] | None:
         """The tree for a value."""
         return self.true if value else self.false
+
+    def goal(self, value: bool) -> GoalDraft | None:
+        """The goal for a value, where it is written."""
+        return (self.goals or {}).get(value)
+
+    def put(self, value: bool, nodes: list[DraftNode] | None) -> None:
+        """The nodes of the tree for a value."""
+        if value:
+            self.true = nodes
+        else:
+            self.false = nodes
 
 
 def _layer(text: LayerText, made: MadeLeaf, others: Sequence[LayerText], notes: list[Note]) -> LayerDraft:
@@ -73,38 +103,100 @@ def _layer(text: LayerText, made: MadeLeaf, others: Sequence[LayerText], notes: 
     return LayerDraft(tuple(moves), None if text.is_hole else tuple(weights))
 
 
+def _layers(given: Layered, made: MadeLeaf, draft: ProofDraft, place: Place) -> list[LayerDraft] | None:
+    """Layers as far as they are written, with what is open in them."""
+    if given.layers is None:
+        draft.holes.append(place)
+        return None
+    draft.holes += [layer.place for layer in given.layers if layer.is_hole]
+    return [_layer(layer, made, given.layers, draft.notes) for layer in given.layers]
+
+
+def _goal(part: TreeText, made: MadeLeaf, names: Names, draft: ProofDraft) -> GoalDraft:
+    """What stands below `when` before the nodes; TextFault where nodes rest on layers that are open."""
+    goal = GoalDraft(_layers(part.goal, made, draft, part.place))
+    if goal.layers is None and part.lines and not part.lines[0].looking_at(HOLE):
+        raise part.place.fault(
+            "the nodes of a goal rest on its layers: write them, `layers none`, or `?` for the tree"
+        )
+    reader = LeafReader(made, names)
+    sets = []
+    for line in part.goal.keeps:
+        try:
+            sets.append(reader.states(line))
+        except Unknown as unknown:
+            raise unknown.place.fault(unknown.told) from None
+        line.must_end()
+    if len(sets) > SET_LIMIT:
+        raise part.goal.keeps[SET_LIMIT].start().fault(f"a goal has at most {SET_LIMIT} sets")
+    goal.sets = tuple(sets)
+    return goal
+
+
+def _goals(text: LeafText, made: MadeLeaf, names: Names, draft: ProofDraft) -> dict[bool, GoalDraft] | None:
+    """The goals of a leaf, None where it has none; TextFault where it has goals and layers of its own, or one alone."""
+    if not any(part.goal.is_there for part in text.trees.values()):
+        return None
+    if text.layers is not None or text.layers_hole:
+        place = text.layers[0].place if text.layers else text.place
+        raise place.fault("layers stand above the trees, or below each `when`, and here they stand in both places")
+    goals = {}
+    for value, part in text.trees.items():
+        if part.is_hole:
+            continue
+        if not part.goal.is_there:
+            raise part.place.fault(
+                "the other value has layers of its own, so this one has too: `layers none` below it if it needs none"
+            )
+        goals[value] = _goal(part, made, names, draft)
+    return goals
+
+
 def read_proof(text: LeafText, made: MadeLeaf, names: Names, tree: Predicate) -> ProofDraft:
     """The proof of a leaf, with notes of what stands for nothing; TextFault where it is malformed."""
     draft = ProofDraft()
     draft.is_given = text.layers is not None or text.layers_hole or bool(text.trees)
-    if text.layers is not None:
-        draft.layers = [_layer(layer, made, text.layers, draft.notes) for layer in text.layers]
-        draft.holes += [layer.place for layer in text.layers if layer.is_hole]
-    else:
-        draft.holes.append(text.place)
+    draft.goals = _goals(text, made, names, draft)
+    if draft.goals is None:
+        draft.layers = _layers(text, made, draft, text.place)
     for value in (True, False):
         part = text.trees.get(value)
         nodes: list[DraftNode] | None = None
         if part is not None and not part.is_hole:
-            reader = TreeReader(made, names, tree, value, draft.notes, draft.holes)
+            goal = draft.goal(value)
+            own = Names(names.variables, made.leaf, goal.for_tree(len(made.leaf.states))) if goal else names
+            reader = TreeReader(made, own, tree, value, draft.notes, draft.holes)
             nodes = reader.read(part)
             draft.node_lines[value] = reader.lines
         else:
             draft.holes.append(part.place if part else text.place)
-        if value:
-            draft.true = nodes
-        else:
-            draft.false = nodes
+        draft.put(value, nodes)
     return draft
 
 
-def finished(draft: ProofDraft) -> tuple[tuple[Layer, ...], tuple[Node, ...], tuple[Node, ...]] | None:
-    """The layers and both trees where nothing is open, else None."""
-    if draft.layers is None or draft.true is None or draft.false is None:
-        return None
-    layers = [Layer(layer.moves, layer.weights) for layer in draft.layers if layer.weights is not None]
-    true = [n for n in draft.true if not isinstance(n, Hole)]
-    false = [n for n in draft.false if not isinstance(n, Hole)]
-    if (len(layers), len(true), len(false)) != (len(draft.layers), len(draft.true), len(draft.false)):
-        return None
-    return tuple(layers), tuple(true), tuple(false)
+def _whole_layers(drafts: list[LayerDraft] | None) -> tuple[Layer, ...] | None:
+    """Layers where nothing is open in them."""
+    layers = [Layer(layer.moves, layer.weights) for layer in drafts or [] if layer.weights is not None]
+    return tuple(layers) if drafts is not None and len(layers) == len(drafts) else None
+
+
+def _whole_tree(drafts: list[DraftNode] | None) -> tuple[Node, ...] | None:
+    """A tree where nothing is open in it."""
+    nodes = [n for n in drafts or [] if not isinstance(n, Hole)]
+    return tuple(nodes) if drafts is not None and len(nodes) == len(drafts) else None
+
+
+def _whole_goal(draft: ProofDraft, value: bool) -> Goal | None:
+    """A goal where nothing is open in it."""
+    goal = draft.goal(value)
+    layers, nodes = _whole_layers(goal.layers) if goal else None, _whole_tree(draft.tree(value))
+    return None if goal is None or layers is None or nodes is None else Goal(layers, goal.sets, nodes)
+
+
+def finished(draft: ProofDraft, pred: str) -> Part | None:
+    """The proof of a leaf with this predicate where nothing is open, else None."""
+    if draft.goals is not None:
+        on_true, on_false = _whole_goal(draft, True), _whole_goal(draft, False)
+        return None if on_true is None or on_false is None else LeafGoals(pred, on_true, on_false)
+    layers, true, false = _whole_layers(draft.layers), _whole_tree(draft.true), _whole_tree(draft.false)
+    return None if layers is None or true is None or false is None else LeafProof(pred, layers, true, false)

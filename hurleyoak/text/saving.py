@@ -67,13 +67,16 @@ def with_proof(text: str, bundle: Bundle) -> str:
         again = strict_bundle(load_pop(made, "the file"))
     except TextFault as fault:
         raise fault.of_input("the file with the proof") from None
-    if again.net != bundle.net or [part.tree(v) for part in again.proof for v in (True, False)] != [
-        part.tree(v) for part in bundle.proof for v in (True, False)
-    ]:
+    if again.net != bundle.net or _trees(again) != _trees(bundle):
         raise InputFault(
             "the proof can't be put into this file: it reads back as another one; `-o FILE` writes a file of its own"
         )
     return made
+
+
+def _trees(bundle: Bundle) -> list[object]:
+    """What has to be read back as it was: the trees and the goals."""
+    return [(part.tree(value), part.goal(value)) for part in bundle.proof for value in (True, False)]
 
 
 def _with_comments(fresh: list[str], old: list[str]) -> list[str]:

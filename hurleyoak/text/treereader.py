@@ -58,7 +58,7 @@ class TreeReader:
     ) -> None:
         self.names, self.reader, self.value = names, LeafReader(made, names), value
         self.notes, self.holes = notes, holes
-        self.space = Space(made.leaf)
+        self.space = Space(made.leaf, names.goal)
         self.branch = Branch()
         self.nodes: list[DraftNode] = []
         self.lines: list[int] = []

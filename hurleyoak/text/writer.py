@@ -10,7 +10,7 @@ from ..protocol.laws import PLAIN, chance_text
 from ..protocol.nets import Item, Leaf, Net, compact
 from ..protocol.predicatereader import read_predicate
 from ..protocol.predicates import Predicate
-from ..proof.bundles import Bundle, Layer, LeafProof, Linear, Residue, node_value
+from ..proof.bundles import Bundle, Goal, Layer, LeafGoals, Linear, Part, Residue, node_value
 from ..protocol.naming import state_text
 
 WIDTH = 118
@@ -157,7 +157,7 @@ def node_lines(visit: Visit, names: Names, room: int) -> list[str]:
     return [lead + names.node(visit.node, visit.branch.names)]
 
 
-def tree_lines(names: Names, tree: Predicate, value: bool, part: LeafProof) -> Iterator[str]:
+def tree_lines(names: Names, tree: Predicate, value: bool, part: Part) -> Iterator[str]:
     """The lines of a tree."""
     nodes = part.tree(value)
     for visit in visits(names, tree, value, nodes):
@@ -190,17 +190,39 @@ def layer_lines(names: Names, layers: Sequence[Layer], at: int) -> list[str]:
     return [*lines, *(" " * STEP + names.move(t) for t in layer.moves)]
 
 
-def proof_lines(net: Net, leaf: Leaf, part: LeafProof) -> list[str]:
+def all_layer_lines(names: Names, layers: Sequence[Layer]) -> list[str]:
+    """The lines of all layers."""
+    if not layers:
+        return [head("layers", "none")]
+    return [line for at in range(len(layers)) for line in layer_lines(names, layers, at)]
+
+
+def keeps_lines(names: Names, states: Sequence[int]) -> list[str]:
+    """The lines of a set that stays; those behind the first begin with a comma."""
+    lines = wrapped("keeps", [f"{{{', '.join(map(names.state, states))}}}"])
+    if HEAD + STEP + len(lines[0]) <= WIDTH:
+        return lines
+    lines = wrapped("keeps", [f"{names.state(q)}" for q in states], ", ")
+    lines = [lines[0], *("  , " + line[HEAD:] for line in lines[1:])]
+    return [f"{lines[0][:HEAD]}{{{lines[0][HEAD:]}", *lines[1:-1], f"{lines[-1]}}}"]
+
+
+def goal_lines(names: Names, goal: Goal) -> list[str]:
+    """The lines of a goal before its nodes."""
+    lines = all_layer_lines(names, goal.layers)
+    return lines + [line for states in goal.sets for line in keeps_lines(names, states)]
+
+
+def proof_lines(net: Net, leaf: Leaf, part: Part) -> list[str]:
     """The lines of a leaf's proof."""
-    names = Names(net.names, leaf)
     tree = read_predicate(part.pred, net.names)
-    lines = [""]
-    for at in range(len(part.layers)):
-        lines += layer_lines(names, part.layers, at)
-    if not part.layers:
-        lines.append(head("layers", "none"))
+    lines = [] if isinstance(part, LeafGoals) else ["", *all_layer_lines(Names(net.names, leaf), part.layers)]
     for value in (True, False):
-        lines += ["", f"when {str(value).lower()}", *tree_lines(names, tree, value, part)]
+        goal = part.goal(value)
+        names = Names(net.names, leaf, goal)
+        lines += ["", f"when {str(value).lower()}"]
+        lines += [" " * STEP + line for line in (goal_lines(names, goal) if goal else [])]
+        lines += tree_lines(names, tree, value, part)
     return lines
 
 

@@ -14,6 +14,19 @@ def _leaf(value: Value, rng: random.Random) -> tuple[Value, Value]:
     return value["net"]["leaves"][at], value["proof"][at]
 
 
+def _goals(part: Value) -> list[Value]:
+    """The goals of a leaf's proof, where it has some."""
+    goals: list[Value] = part.get("goals", [])
+    return goals
+
+
+def _layers(part: Value, rng: random.Random) -> list[Value]:
+    """The layers of a leaf's proof, or of one of its goals."""
+    goals = _goals(part)
+    layers: list[Value] = (rng.choice(goals) if goals else part)["layers"]
+    return layers
+
+
 def drop_move(value: Value, rng: random.Random) -> None:
     """A move of the net goes, and layers are renumbered, so that the proof alone suffers."""
     leaf, part = _leaf(value, rng)
@@ -21,8 +34,9 @@ def drop_move(value: Value, rng: random.Random) -> None:
         return
     t = rng.randrange(len(leaf["moves"]))
     del leaf["moves"][t]
-    for layer in part["layers"]:
-        layer["moves"] = [u - (u > t) for u in layer["moves"] if u != t]
+    for proof in _goals(part) or [part]:
+        for layer in proof["layers"]:
+            layer["moves"] = [u - (u > t) for u in layer["moves"] if u != t]
 
 
 def change_move(value: Value, rng: random.Random) -> None:
@@ -36,8 +50,9 @@ def change_move(value: Value, rng: random.Random) -> None:
 def change_weight(value: Value, rng: random.Random) -> None:
     """A weight is another."""
     _, part = _leaf(value, rng)
-    if part["layers"]:
-        weights = rng.choice(part["layers"])["weights"]
+    layers = _layers(part, rng)
+    if layers:
+        weights = rng.choice(layers)["weights"]
         if weights:
             weights[rng.randrange(len(weights))] += rng.choice([-1, 1, 2])
 
@@ -45,7 +60,7 @@ def change_weight(value: Value, rng: random.Random) -> None:
 def change_layers(value: Value, rng: random.Random) -> None:
     """Layers change places, or a move goes to another layer, or is listed twice or not at all."""
     _, part = _leaf(value, rng)
-    layers = part["layers"]
+    layers = _layers(part, rng)
     if not layers:
         return
     kind = rng.randrange(4)
@@ -62,8 +77,29 @@ def change_layers(value: Value, rng: random.Random) -> None:
 
 def _nodes(value: Value, rng: random.Random) -> list[Any]:
     _, part = _leaf(value, rng)
-    nodes: list[Any] = part[rng.choice(["true", "false"])]
+    goals = _goals(part)
+    nodes: list[Any] = rng.choice(goals)["nodes"] if goals else part[rng.choice(["true", "false"])]
     return nodes
+
+
+def change_sets(value: Value, rng: random.Random) -> None:
+    """A goal's set gets a state or loses one, or one more set stands beside it, or all are left out."""
+    leaf, part = _leaf(value, rng)
+    if not _goals(part):
+        return
+    goal = rng.choice(_goals(part))
+    right = [q for q, b in enumerate(leaf["output"]) if b == (goal is _goals(part)[0])]
+    sets = goal.setdefault("sets", [right])
+    kind = rng.randrange(4)
+    if kind == 0:
+        del goal["sets"]
+    elif kind == 1:
+        sets.append(sorted(rng.sample(right, rng.randint(0, len(right)))))
+    else:
+        at = rng.randrange(len(sets))
+        sets[at] = sorted(
+            set(sets[at]) ^ {rng.choice(right + [0]) if kind == 2 else rng.randrange(len(leaf["states"]))}
+        )
 
 
 def change_term(value: Value, rng: random.Random) -> None:
@@ -158,12 +194,14 @@ ALL: list[Change] = [
     change_net,
     change_predicate,
 ]
+OF_GOALS: list[Change] = [*ALL, change_sets, change_sets, change_layers, change_layers]
 
 
 def changed(value: Value, seed: int) -> Value:
     """A bundle's value with one change, and sometimes two."""
     rng = random.Random(seed)
     out = copy.deepcopy(value)
+    kinds = OF_GOALS if any(map(_goals, value["proof"])) else ALL
     for _ in range(1 + (rng.random() < 0.3)):
-        rng.choice(ALL)(out, rng)
+        rng.choice(kinds)(out, rng)
     return out

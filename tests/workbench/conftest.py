@@ -48,7 +48,7 @@ needs_program = pytest.mark.skipif(
 def example_paths() -> list[Path]:
     """Every bundle of examples/."""
     return sorted(
-        [*EXAMPLES.glob("*/bundle.json"), *EXAMPLES.glob("accepted/*.json"), *EXAMPLES.glob("rejected/*.json")]
+        path for name in ("*/bundle", "accepted/*", "rejected/*", "stable/*") for path in EXAMPLES.glob(f"{name}.json")
     )
 
 

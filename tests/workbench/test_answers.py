@@ -236,7 +236,10 @@ AROUND = "inputs x: A\nA + A -> A + B\nA + B -> A + A\n{}\nyes {}\ncomputes x >=
 )
 def test_crowds_that_go_round_are_told_apart(more: str, yes: str, told: str, status: int, tmp_path: Path) -> None:
     pytest.importorskip("scipy")
-    for words in (["find"], ["refute", "--agents", "6"]):
+    # (the first one has goals, which `find` finds)
+    for words in ([] if status == program.UNDECIDED else ["find"]), ["refute", "--agents", "6"]:
+        if not words:
+            continue
         run = pop(*words, text=AROUND.format(more, yes), POP_MAIN="/bin/false")
         if status == program.UNDECIDED:
             assert told in run.stdout + run.stderr and run.returncode == status
@@ -295,7 +298,7 @@ def test_layers_that_time_kept_from_us_are_not_denied() -> None:
     leaf = loaded.net.leaves[0]
     result = work(Task(LAYERS, 0, leaf, loaded.whole_tree(), 0.0, 0.0, net=loaded.net, whole=loaded.whole_tree()))
     told = _no_layers(Names(loaded.net.names, leaf), result)
-    assert "may exist: the time was up" in told and "no layers" not in told and "can't be certified" not in told
+    assert "may exist: the time was up" in told and "no layers" not in told and "needs goals" not in told
 
 
 def test_what_ended_by_time_says_so(monkeypatch: pytest.MonkeyPatch) -> None:

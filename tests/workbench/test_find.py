@@ -17,7 +17,7 @@ from hurleyoak.text.loaded import LoadedNet
 from hurleyoak.protocol.nets import Leaf, Net, pair
 from hurleyoak.protocol.predicatereader import read_predicate
 from hurleyoak.protocol.predicates import Predicate, value_at
-from hurleyoak.proof.bundles import Bundle, Layer, Node, Present, Siphon, Split, Trap, Twin
+from hurleyoak.proof.bundles import Bundle, Layer, LeafProof, Node, Present, Siphon, Split, Trap, Twin
 
 from .conftest import CHANGES, EXAMPLES, bundle_at, example_paths, needs_program
 from .test_commands import pop
@@ -135,12 +135,12 @@ def test_what_is_found_is_certified_by_the_program() -> None:
 
 def test_trees_are_as_small_as_they_are_known() -> None:
     bundle = good(found(p.flock(9)))
-    assert (len(bundle.proof[0].true), len(bundle.proof[0].false)) == (19, 5)
+    assert (len(bundle.proof[0].tree(True)), len(bundle.proof[0].tree(False))) == (19, 5)
 
 
 @pytest.mark.parametrize("case", SMALL, ids=lambda case: f"{case.family}: {case.name}")
 def test_trees_are_made_as_small_as_an_earlier_finder_s(case: Case) -> None:
-    sizes = [len(tree) for part in good(found(case, small=4.0)).proof for tree in (part.true, part.false)]
+    sizes = [len(tree) for part in good(found(case, small=4.0)).proof for tree in map(part.tree, (True, False))]
     assert all(ours <= theirs for ours, theirs in zip(sizes, read_sizes(OTHERS)[case.family, case.name]))
 
 
@@ -199,6 +199,7 @@ def test_what_is_written_is_kept(old: str, new: str) -> None:
     given_ = load(PARTS, "x")
     assert given_.drafts is not None
     kept = bundle.proof[0]
+    assert isinstance(kept, LeafProof)
     if "layer" in new:
         assert kept.layers[0].moves == (0, 1) and kept.layers[1] == Layer((2, 3), (0, 0, 1, 0))
     else:
@@ -231,6 +232,10 @@ HIDDEN = "inputs x: A y: B\nA + B -> A + A\nA + B -> B + B\nyes A\ncomputes x >=
 ORDER = (
     "inputs x: 1  y: 0\n1 + 1 -> 2 + 0\n2 + 2 -> 4 + 0\n4 + 0 -> 4 + 2\n4 + 1 -> 4 + 4\n4 + 2 -> 4 + 4\nyes"
     " 4\ncomputes x >= 4\n"
+)
+SINKING = (
+    "states 0 1 2 3 4\ninputs x: 1  y: 0\n1 + 1 -> 1 + 2\n2 + 2 -> 2 + 3\n3 + 3 -> 3 + 4\n4 + * -> 4 + 4\n2 + 0 -> 1 + 0\n"
+    "3 + 0 -> 2 + 0\nyes 4\ncomputes x >= 4\n"
 )
 UNMERGED = (
     "inputs x: x\nhelpers H0\nH0 + x -> H1 + f\nH1 + x -> H0 + f\nH0 + f -> H0 + t\nH1 + t -> H1 + f\nyes H0"
@@ -278,10 +283,17 @@ def test_stable_but_not_silent_is_no_counterexample() -> None:
             "all inputs of up to 5 agents plus helpers were tried" in run.stdout
             and "In the literature such a protocol is right" in run.stdout
         )
+        assert "Goals can certify it" in run.stdout
         run = pop("find", text=text)
-        assert run.returncode == program.UNDECIDED and run.stderr.startswith(
-            f"not found: stable, but not silent: {told}"
-        )
+        assert run.returncode == program.DONE and run.stderr.startswith("stable ")
+        assert program.ask(["check"], run.stdout).text == run.stderr.split("\n")[0] + "\n"
+
+
+@needs_program
+def test_stable_but_not_silent_without_goals_is_told_as_before() -> None:
+    run = pop("find", "--seconds", "3", text=SINKING)
+    assert run.returncode == program.UNDECIDED and run.stderr.startswith("not found: stable, but not silent: at x=")
+    assert "`find` found none" in run.stderr and run.stdout == ""
 
 
 @needs_program
@@ -354,7 +366,9 @@ def test_neither_found() -> None:
         and "It can't be reached: all" in run.stderr
         and "What helps" in run.stderr
     )
-    run = pop("find", text=UNMERGED)
+    assert pop("find", text=UNMERGED).stderr.startswith("stable ")
+    # (a line for layers that are to be found asks for a proof without goals)
+    run = pop("find", text=UNMERGED + "layers ?\n")
     assert run.returncode == program.UNDECIDED
     assert (
         "no layers were found" in run.stderr
@@ -401,7 +415,8 @@ def test_the_least_bound_is_found() -> None:
 def test_smt_shows_that_there_are_no_layers() -> None:
     pytest.importorskip("z3")
     leaf = load(UNMERGED, "x").net.leaves[0]
-    assert layers_by_smt(LayerFinder(leaf, 1e12), 1e12) == (NONE, [])
+    answer, some = layers_by_smt(LayerFinder(leaf, 1e12), 1e12)
+    assert answer == NONE and sum(map(len, some)) < len(leaf.active)
 
 
 def test_the_shortest_way_with_the_fewest_agents() -> None:

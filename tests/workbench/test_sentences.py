@@ -14,7 +14,7 @@ from hurleyoak.show.told.meanings import MEANINGS
 from .conftest import EXAMPLES, TOP
 
 FORMATS = (TOP / "docs" / "reference" / "formats.md").read_text()
-NUMBERS = re.compile(r"\b(W|N|AT|S|ATOM|I|T|U|NODE)\b")
+NUMBERS = re.compile(r"\b(W|N|AT|S|ATOM|I|J|Q|T|U|NODE)\b")
 REASONS = {
     "fault: usage 1 WHY": ["missing", "unknown", "twice", "value", "product"],
     "fault: format PATH WHY": ["kind", "range", "name", "shape", "pred syntax 4"],
@@ -76,6 +76,9 @@ def test_the_tables_are_read() -> None:
         "fault: wide 1",
         "rejected leaf 0 layers wakes 1 1",
         "rejected leaf 0 true 1 rest",
+        "rejected leaf 0 true layers wakes 1 1",
+        "rejected leaf 0 true set 1 output 1",
+        "rejected leaf 0 true set 1 wakes 1 1",
         "rejected predicate",
         "fault: journal 1 round",
     } <= set(lines)

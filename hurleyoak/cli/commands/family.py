@@ -42,6 +42,6 @@ def find_all(given: Given, found: list[dict[str, int]], text: str) -> int:
             )
         )
         sys.stdout.flush()
-        if row is not HEAD and not row[-1].startswith("certified "):
+        if row is not HEAD and not row[-1].startswith(("certified ", "stable ")):
             status = UNDECIDED
     return status

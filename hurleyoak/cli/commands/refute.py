@@ -64,10 +64,10 @@ def run(given: Given) -> int:
         return show_flaw(loaded, flaw, given.text("--write"))
     whole = tried.agents
     if tried.restless is not None:
-        from ...show.telling import restless_told
+        from ...show.telling import OFFERED, restless_told
 
         assert loaded.predicate is not None
-        print(restless_told(loaded.net, tree, loaded.predicate, tried.restless, tried))
+        print(restless_told(loaded.net, tree, loaded.predicate, tried.restless, tried, OFFERED))
         return NOT_FOUND
     print(
         f"no flaw: all inputs of up to {whole} agents plus helpers{that_meet(loaded)} were tried"

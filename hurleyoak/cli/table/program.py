@@ -21,7 +21,8 @@ PROGRAM = (
         ("pop check FILE [--twice]", "pop check < BUNDLE"),
         (
             "Prints `certified K`, where K is the bound of steps for each agent, or `rejected` and the first "
-            "part of the proof that is not valid. A bundle is a net, a predicate and a proof. FILE is a "
+            "part of the proof that is not valid. If the proof has goals, it prints `stable K`: outputs come to rest, "
+            "and agents may go on changing. A bundle is a net, a predicate and a proof. FILE is a "
             "bundle in JSON, on one line or many, or a .pop file with a proof."
         ),
         ("pop check examples/majority/majority.pop --twice", "pop check < examples/flock/bundle.json"),
@@ -32,7 +33,7 @@ PROGRAM = (
         "what is certified, by names: predicate, states, moves, layers",
         ("pop show FILE", "pop show < BUNDLE"),
         (
-            "Checks a bundle as `check` does. Below `certified K` it prints the predicate and the net that were "
+            "Checks a bundle as `check` does, whose proof has no goals. Below `certified K` it prints the predicate and the net that were "
             "certified, by names: variables, states, helpers, outputs, moves, and the layers of the proof. "
             "Whatever else `check` would print, `show` prints too."
         ),

@@ -89,8 +89,8 @@ WORKBENCH = (
         "a certified bundle of a protocol, or a crowd that it gets wrong",
         ("pop find [FILE] [PREDICATE] [OPTION VALUE]..",),
         (
-            "Looks for layers and trees. What it prints was certified by the program; a crowd that is wrong "
-            "was played by it."
+            "Looks for layers and trees, and for goals if the agents never come to rest. What it prints was certified "
+            "by the program, or shown stable; a crowd that is wrong was played by it."
         ),
         (
             "pop find examples/epidemic/net.json 'x >= 1'",

@@ -11,6 +11,8 @@ from .places import place_of, value_at
 from .predicates import predicate_told
 from .quoting import quoted, short
 
+LAYERS = r"/proof/\d+(?:/goals/\d+)?/layers"
+TREE = r"/proof/\d+/(?:true|false|goals/\d+/nodes)"
 # the rule of each value, by a pattern of its path below the net or the bundle
 RULES = [
     (r"/format", "`format` is the whole number 1, or 2 for a net with helpers"),
@@ -61,39 +63,44 @@ RULES = [
     (r"/net", "a bundle is an object with the members `net`, `pred` and `proof`"),
     (r"/pred", "`pred` is the predicate, a text"),
     (r"/proof", "`proof` is a list with one object for each leaf of the net"),
-    (r"/proof/\d+", "the proof of a leaf is an object with `pred`, `layers`, `true` and `false`"),
-    (r"/proof/\d+/pred", "`pred` is the leaf's predicate, a text"),
-    (r"/proof/\d+/layers", "`layers` is a list of at most 256 layers"),
-    (r"/proof/\d+/layers/\d+", "a layer is an object with `moves` and `weights`"),
-    (r"/proof/\d+/layers/\d+/moves", "a layer's `moves` is a list of at most 65,536 numbers of moves"),
-    (r"/proof/\d+/layers/\d+/moves/\d+", "a layer names moves by number, each below 2^32"),
-    (r"/proof/\d+/layers/\d+/weights", "`weights` is a list of at most 512 numbers, one for each state"),
-    (r"/proof/\d+/layers/\d+/weights/\d+", "a weight is a whole number of at most 2^40 in size"),
-    (r"/proof/\d+/(true|false)", "a tree is a list of at most 1,000,000 nodes"),
     (
-        r"/proof/\d+/(true|false)/\d+",
+        r"/proof/\d+",
+        "the proof of a leaf is an object with `pred` and `goals`, or with `pred`, `layers`, `true` and `false`",
+    ),
+    (r"/proof/\d+/pred", "`pred` is the leaf's predicate, a text"),
+    (r"/proof/\d+/goals", "`goals` is a list of two goals: first the one for true, then the one for false"),
+    (r"/proof/\d+/goals/\d+", "a goal is an object with `layers` and `nodes`, and with `sets` where it has some"),
+    (r"/proof/\d+/goals/\d+/sets", "`sets` is a list of at most 64 sets of states"),
+    (r"/proof/\d+/goals/\d+/sets/\d+(/\d+)?", "a set is a list of states that ascend strictly, each below 2^16"),
+    (rf"{LAYERS}", "`layers` is a list of at most 256 layers"),
+    (rf"{LAYERS}/\d+", "a layer is an object with `moves` and `weights`"),
+    (rf"{LAYERS}/\d+/moves", "a layer's `moves` is a list of at most 65,536 numbers of moves"),
+    (rf"{LAYERS}/\d+/moves/\d+", "a layer names moves by number, each below 2^32"),
+    (rf"{LAYERS}/\d+/weights", "`weights` is a list of at most 512 numbers, one for each state"),
+    (rf"{LAYERS}/\d+/weights/\d+", "a weight is a whole number of at most 2^40 in size"),
+    (rf"{TREE}", "a tree is a list of at most 1,000,000 nodes"),
+    (
+        rf"{TREE}/\d+",
         'a node is a list: its word, and the items that the word asks for, as ["present",0] or ["lin",[[0,1]]]',
     ),
-    (r"/proof/\d+/(true|false)/\d+/0", "a node's word is lin, residue, split, present, twin, trap, siphon or open"),
+    (rf"{TREE}/\d+/0", "a node's word is lin, residue, split, present, twin, trap, siphon or open"),
     (
-        r"/proof/\d+/(true|false)/\d+/\d+",
+        rf"{TREE}/\d+/\d+",
         (
             "a node's item is a number, or a list of at most 65,536 terms or 512 "
             "states. A modulus is 2 to 200, a constant at most 2^40 in size"
         ),
     ),
+    (rf"{TREE}/\d+/\d+/\d+", "a term is a list of two numbers; states ascend strictly, each below 2^16"),
     (
-        r"/proof/\d+/(true|false)/\d+/\d+/\d+",
-        "a term is a list of two numbers; states ascend strictly, each below 2^16",
-    ),
-    (
-        r"/proof/\d+/(true|false)/\d+/\d+/\d+/\d+",
+        rf"{TREE}/\d+/\d+/\d+/\d+",
         (
             "a term has a number below 2^32, of a variable in ascending order "
             "or of a fact, and a factor of at most 2^40 in size"
         ),
     ),
 ]
+LAYERS_MISSING = re.compile(r"/proof/\d+/layers")
 KINDS: dict[type, str] = {
     dict: "an object",
     list: "a list",
@@ -126,6 +133,12 @@ def _filled(rule: str, value: Any, path: str) -> str:
         outputs=f", and there are {states}" if states else "",
         leaves=f" (here 0 to {len(leaves) - 1})" if isinstance(leaves, list) and leaves else "",
     )
+
+
+def _has_goals(value: Any, path: str) -> bool:
+    """Whether the leaf's proof to which a path leads has goals in the place of layers."""
+    _, part = value_at(value, path.rpartition("/")[0])
+    return isinstance(part, dict) and "goals" in part and "layers" not in part
 
 
 def _found(value: Any, path: str) -> str:
@@ -161,6 +174,11 @@ def format_told(asked: Asked, path: str, why: str) -> list[str]:
             return [
                 f"this is {what}; `{asked.words[0]}` takes a bundle: a net with its predicate and proof",
                 f"`pop find {asked.file or 'FILE'} PREDICATE` looks for a proof",
+            ]
+        if LAYERS_MISSING.fullmatch(path) and _has_goals(value, path):
+            return [
+                f"this proof has goals, and `{asked.words[0]}` takes proofs with layers alone so far; `check` takes it",
+                "`simulate`, `sweep` and `play` take the net, whatever its proof is",
             ]
         if "net" in value and path == "/format":
             return [

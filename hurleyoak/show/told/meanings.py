@@ -68,6 +68,14 @@ MEANINGS = [
             "This number of steps for each agent can lead it to its end."
         ),
     ),
+    (
+        r"stable \d+",
+        (
+            "The proof is valid, and has goals: the net computes the predicate for crowds of every size. This number"
+            " of steps for each agent can lead it to a crowd whose outputs are right and stay so. Agents may go on"
+            " changing."
+        ),
+    ),
     (r"holds \d+", "The journal is a run of the certified net, with this number of meetings."),
     (
         r"differs \d+",

@@ -24,18 +24,28 @@ GENERAL = {
     "too-many-facts": "a case of node {at} would have over 65,536 facts",
     "rest": "node {at} is one too many: all cases are closed before it",
 }
+OF_SETS = {
+    "output": "state {at} is in it, and has another output",
+    "leaves": "move {at} leads out of it, and is in no layer",
+    "wakes": "move {at} makes a move possible again that leads out of it",
+}
 PREDICATE = "the leaves' predicates don't combine to the bundle's"
-_LAYERS = re.compile(r"rejected leaf (\d+) layers ([a-z-]+) (\d+)(?: (\d+))?")
+_LAYERS = re.compile(r"rejected leaf (\d+)(?: (true|false))? layers ([a-z-]+) (\d+)(?: (\d+))?")
+_SET = re.compile(r"rejected leaf (\d+) (true|false) set (\d+) (output|leaves|wakes) (\d+)(?: (\d+))?")
 _TREE = re.compile(r"rejected leaf (\d+) (true|false) (\d+) ([a-z-]+)")
 MOST = 3
 
 
 def rejected_told(asked: Asked, line: str) -> list[str]:
     """What the proof lacks; what the workbench sees is told only where it comes to the program's own line."""
-    layers, tree = _LAYERS.fullmatch(line), _TREE.fullmatch(line)
+    layers, tree, one = _LAYERS.fullmatch(line), _TREE.fullmatch(line), _SET.fullmatch(line)
     where, general = "", PREDICATE
     if layers:
-        where, general = f"leaf {layers[1]}, layers: ", GENERAL[layers[2]].format(at=layers[3])
+        of = f" of the goal for {layers[2]}" if layers[2] else ""
+        where, general = f"leaf {layers[1]}, layers{of}: ", GENERAL[layers[3]].format(at=layers[4])
+    elif one:
+        where = f"leaf {one[1]}, set {one[3]} of the goal for {one[2]}: "
+        general = OF_SETS[one[4]].format(at=one[5])
     elif tree:
         where, general = f"leaf {tree[1]}, tree for {tree[2]}: ", GENERAL[tree[4]].format(at=tree[3])
     lacks = _lacks(asked, line)
@@ -65,7 +75,7 @@ def _found(told: Explanation, line: str) -> list[str]:
     if line == "rejected predicate":
         return told.predicate
     if not tree:
-        return next((leaf.layer_lacks for leaf in told.leaves if leaf.layer_fault), [])
+        return next((leaf.lacks for leaf in told.leaves if leaf.lacks), [])
     for node in told.tree(int(tree[1]), tree[2] == "true"):
         if node.refused:
             at = [f"node {node.number}: {node.text[0].strip()}"] if node.visit.node is not None else []

@@ -1,5 +1,5 @@
 // The words of a `.pop` file, token by token: for the editor's colours, and for a listing without an editor.
-const HEADS = /^(?:format|family|for|variables|predicate|combine|leaf|states|inputs|helpers|yes|no|computes|layers|layer|when)(?![A-Za-z0-9_.:])/;
+const HEADS = /^(?:format|family|for|variables|predicate|combine|leaf|states|inputs|helpers|yes|no|computes|layers|layer|when|keeps)(?![A-Za-z0-9_.:])/;
 const NODES = /^(?:open|present|twin|trap|siphon|split|lin|residue|missing|rest)(?![A-Za-z0-9_.])/;
 const NAME = /^[A-Za-z0-9_'.^~@$%](?:[A-Za-z0-9_'.^~@$%]|-(?!>))*/;
 

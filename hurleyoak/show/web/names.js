@@ -18,6 +18,7 @@ const KEYWORDS = {
   layers: "`layers none`, or `layers ?` where they are to be found",
   layer: "weights of states; each move below lowers their sum, so that they end",
   when: "a tree that refutes wrong ends, for inputs where the predicate is true or false",
+  keeps: "a set of states that agents don't leave once all of them are in it",
   open: "says what a predicate's value means",
   present: "two cases: at the end no agent is in this state, or one is",
   twin: "two of this state would meet, so at most one is left",

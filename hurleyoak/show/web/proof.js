@@ -121,17 +121,36 @@ function layer(one, number) {
   );
 }
 
+function goalPart(goal, nodes, value, call) {
+  const about = `Refutes each crowd in which none of these moves is possible and an agent is outside, where the predicate is ${value}.`;
+  return [
+    h("h4", {}, `Goal when the predicate is ${value}`),
+    goal.lacks.map((told) => h("p", { class: "refused" }, told)),
+    goal.told.map((told) => h("p", { class: "small" }, told)),
+    goal.layers.length ? goal.layers.map(layer) : h("p", { class: "small" }, "no layers"),
+    tree(nodes, `When the predicate is ${value}`, about, call),
+  ];
+}
+
+// The proof of a leaf that falls silent.
+function silentPart(leaf, call) {
+  const about = (value) => `Refutes each terminal crowd in which an agent says ${!value}, where the predicate is ${value}.`;
+  return [
+    leaf.layers.length ? leaf.layers.map(layer) : h("p", { class: "small" }, "no layers"),
+    tree(leaf.true, "When the predicate is true", about(true), call),
+    tree(leaf.false, "When the predicate is false", about(false), call),
+  ];
+}
+
 function leafPart(leaf, many, call) {
   const starts = leaf.starts.map(([name, state]) => `${name} starts in ${state}`).join(", ");
   const helpers = leaf.helpers.length ? `; helpers: ${leaf.helpers.join(", ")}` : "";
-  const about = (value) => `Refutes each terminal crowd in which an agent says ${!value}, where the predicate is ${value}.`;
+  const goals = leaf.goals ?? {};
   return [
     many ? h("h3", {}, leaf.label) : null,
     h("p", { class: "small" }, `${starts}${helpers}. It computes `, h("code", {}, leaf.computes), "."),
     leaf.layerLacks.map((told) => h("p", { class: "refused" }, told)),
-    leaf.layers.length ? leaf.layers.map(layer) : h("p", { class: "small" }, "no layers"),
-    tree(leaf.true, "When the predicate is true", about(true), call),
-    tree(leaf.false, "When the predicate is false", about(false), call),
+    goals.true ? [goalPart(goals.true, leaf.true, "true", call), goalPart(goals.false, leaf.false, "false", call)] : silentPart(leaf, call),
   ];
 }
 

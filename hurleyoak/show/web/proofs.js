@@ -210,9 +210,9 @@ export class Proofs {
       this.head,
       badge(answer.good ? "certified" : "rejected"),
       h("p", { class: `line ${answer.good ? "good" : "bad"}` }, h("code", {}, answer.line)),
-      h("p", { class: "small" }, answer.good ? `${meaning("certified")} Well-chosen steps, at most ${answer.line.split(" ")[1]} for each agent, lead to the end; random meetings may take far longer.` : done.whole === false ? "Parts are open, or stand for nothing: they are marked in the text. The program was asked about the rest." : meaning("rejected")),
+      h("p", { class: "small" }, answer.good ? `${meaning("certified")} Well-chosen steps, at most ${answer.line.split(" ")[1]} for each agent, lead to ${answer.line.startsWith("stable") ? "an answer that stays" : "the end"}; random meetings may take far longer.` : done.whole === false ? "Parts are open, or stand for nothing: they are marked in the text. The program was asked about the rest." : meaning("rejected")),
       more,
-      h("div", { class: "row" }, h("button", { type: "button", onclick: () => download(`${name}.bundle.json`, `${bundle}\n`, "application/json") }, "Download bundle.json"), answer.good ? h("button", { type: "button", onclick: () => store.tell("journal") }, "Run it, for a journal") : null),
+      h("div", { class: "row" }, h("button", { type: "button", onclick: () => download(`${name}.bundle.json`, `${bundle}\n`, "application/json") }, "Download bundle.json"), answer.line.startsWith("certified") ? h("button", { type: "button", onclick: () => store.tell("journal") }, "Run it, for a journal") : null),
     );
     store.layers = { net: JSON.stringify(store.net), leaves: layersOf(explanation) };
     store.tell("layers");
