@@ -91,12 +91,13 @@ def cases() -> dict[str, Case]:
     """Each case by its name."""
     majority, short_run = contents("majority/bundle.json"), ["run", "--turns", "2"]
     compiled, crowded = written(["compile"], b"vars x\nx = 2\n"), ["run", "--workers", "4", "--shards", "2"]
-    many = majority + b"crowd x=120 y=80\n"
+    many, goals = majority + b"crowd x=120 y=80\n", contents("stable/two-looks.json")
     return {
         "play": (["play"], contents("majority/play.txt"), None),
         "eval": (["eval"], b"vars x y\n2*x - y < 5 && x + y = 1 mod 3\ncrowd x=0 y=1\n", None),
         "check": (["check"], majority, None),
         "check of two leaves": (["check"], contents("and/bundle.json"), None),
+        "check of goals": (["check"], goals, None),
         "show": (["show"], majority, None),
         "compile": (["compile"], b"vars x\nx < 1\n", None),
         "compile --flocks": (["compile", "--flocks"], b"vars x\nx >= 4\n", None),
@@ -109,6 +110,7 @@ def cases() -> dict[str, Case]:
         "replay of four workers": (["replay"], written(crowded, many), None),
         "replay of a changed mark": (["replay"], contents("replays/changed-mark.txt"), None),
         "settle": (["settle"], bundle_and_crowd("majority"), None),
+        "settle by goals": (["settle"], goals + b"crowd x=1 y=1\n", None),
         "demo": (["demo", "0"], b"", None),
     }
 

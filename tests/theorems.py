@@ -76,6 +76,10 @@ PROMISES = (
         "random_meetings_compute, falling_is_cubic, runs_are_uniform",
     ),
     ("a crowd's only settlement, within the proof's bound, and its last crowd is terminal", "settle, settlements_end"),
+    (
+        "the only settlement by the goals that an input chooses, and its last crowd is right for ever",
+        "settle_goals, settlements_rest",
+    ),
     ("a value is the file of this proof or bundle, or this is the first broken rule", "read_proof, read_bundle"),
     (
         "a leaf computes a threshold, a remainder, a flock, and its proof is valid",
@@ -118,6 +122,7 @@ LIBRARY_ALONE = {"run_all", "run_watched", "write_journal", "push_journal", "run
 TOP_CRATES = ("tool_texts", "tool_commands", "pop_tool", "pop_main")
 BELOW_CHECK = (
     ("pop_tool", "StableHeadline", "StableSays"),
+    ("pop_tool", "StableHeadline", "SettledSays"),
     ("net_goals", "StablyRight", "IsStablyRight"),
     ("pop_checker", "Sound", "IsRight"),
     ("pop_checker", "Changes", "ChangesAtMost"),

@@ -40,7 +40,7 @@ PREDICATES = (
 AGENTS, FEW = 6, 3
 TOLD = 20  # wrong nets between two lines
 SMALL_STATES = 9
-FLAW_SECONDS, GOAL_SECONDS = 0.5, 1.5
+FLAW_SECONDS, GOAL_SECONDS = 0.5, 0.6
 
 
 def _loud(moves: list[Move]) -> tuple[Move, ...]:

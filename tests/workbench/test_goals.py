@@ -249,12 +249,19 @@ def test_files_both_ways() -> None:
 
 
 @needs_program
-@pytest.mark.parametrize("command", ["run", "settle", "show", "watch"])
+@pytest.mark.parametrize("command", ["run", "show", "watch"])
 def test_commands_that_don_t_take_goals_say_so(command: str) -> None:
     counts = [] if command == "show" else ["x=2", "y=1"]
     run = pop(command, str(TELLING), *counts)
     assert run.returncode == program.REFUSED and run.stdout == "fault: format /proof/0/layers kind\n"
-    assert f"this proof has goals, and `{command}` takes proofs with layers alone so far" in run.stderr
+    assert f"this proof has goals, and `{command}` takes proofs with layers alone" in run.stderr
+
+
+@needs_program
+def test_settle_leads_to_an_answer_that_stays() -> None:
+    run = pop("settle", str(EXAMPLES / "stable" / "two-looks.pop"), "x=1", "y=2")
+    assert (run.returncode, run.stdout) == (0, "take 0 0 0 1\ntake 0 0 0 2\nend\nI1 3\nsettled true\n")
+    assert pop("settle", str(TELLING), "x=1", "y=2").stdout.endswith("settled false\n")
 
 
 @needs_program

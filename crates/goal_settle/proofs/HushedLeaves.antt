@@ -72,9 +72,6 @@ states_at (l ∷ leaves) (p ∷ parts) (suc i) made h = states_at leaves parts i
 -- ---- the net
 
 module _ (net : NetModel) (proof : Proof) where
-  abbrev made_net : NetModel
-  made_net = hushed_net net proof
-
   pub hushed_is_net : IsNet net → IsNet (hushed_net net proof)
   hushed_is_net is =
       let lengths = hushed_length net.leaves proof.leaves in

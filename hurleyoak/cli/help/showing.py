@@ -123,7 +123,7 @@ def help_command(words: list[str]) -> int:
     pages = {page.word: page for page in all_commands()}
     if text in pages:
         return show_page(text)
-    if re.match(r"(fault|rejected|differs|undecided|certified|stable|holds|enabled|terminal|verdict)\b", text):
+    if re.match(r"(fault|rejected|differs|undecided|certified|stable|holds|enabled|settled|terminal|verdict)\b", text):
         print("\n".join(textwrap.wrap(" ".join(line_meaning(text)), WIDTH)))
         return DONE
     from ...show.told.quoting import meant

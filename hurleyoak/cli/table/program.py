@@ -74,7 +74,8 @@ PROGRAM = (
         ("pop settle FILE x=30 y=10", "pop settle < BUNDLE-AND-CROWD"),
         (
             "Makes the first move that the layers allow, again and again. It always comes to the crowd's end, "
-            "and prints the verdict."
+            "and prints the verdict. By a proof with goals it comes to a crowd whose outputs stay, and prints "
+            "`settled` and the value."
         ),
         (
             "pop settle examples/flock/flock.pop x=5 y=2",

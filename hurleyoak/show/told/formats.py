@@ -177,7 +177,7 @@ def format_told(asked: Asked, path: str, why: str) -> list[str]:
             ]
         if LAYERS_MISSING.fullmatch(path) and _has_goals(value, path):
             return [
-                f"this proof has goals, and `{asked.words[0]}` takes proofs with layers alone so far; `check` takes it",
+                f"this proof has goals, and `{asked.words[0]}` takes proofs with layers alone; `check` and `settle` take it",
                 "`simulate`, `sweep` and `play` take the net, whatever its proof is",
             ]
         if "net" in value and path == "/format":

@@ -91,4 +91,8 @@ MEANINGS = [
     (r"enabled \d+ \d+", "A meeting of these two agents would change something; no lesser pair would."),
     (r"terminal", "No meeting changes anything any more."),
     (r"verdict (true|false)", "The crowd has come to its end, and all agents output this, the predicate's value."),
+    (
+        r"settled (true|false)",
+        "All agents output this, the predicate's value, and do so for ever, though they may go on changing.",
+    ),
 ]
