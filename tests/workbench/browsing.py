@@ -68,6 +68,11 @@ class Page:
         """Gives the page this size."""
         resize(self.browser, width, height)
 
+    def leave(self) -> None:
+        """Closes the page, so that it asks no server any more, and forgets its complaints."""
+        self.browser.get("about:blank")
+        self.complaints()
+
     def open(self, address: str) -> None:
         """Opens the page, and waits until it stands."""
         self.browser.get(address)

@@ -37,7 +37,7 @@ def data_of(page: str) -> dict[str, object]:
 def shared(browser: Page) -> Iterator[Page]:
     """The browser of all tests; none leaves complaints in its console."""
     browser.resize()
-    browser.complaints()
+    browser.leave()
     yield browser
     assert browser.complaints() == []
 
