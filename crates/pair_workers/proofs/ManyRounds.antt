@@ -13,7 +13,7 @@ use Rattle.pop_crowd.specs.Replay.{replay, AreMarked}
 use Rattle.pop_crowd.proofs.InARow.{replay_append}
 use Rattle.pop_words.specs.declared.spec.RunSpec.{RunSpec}
 use Rattle.pair_workers.specs.Picks.{picks, picks_from, words_from, first_state}
-use Rattle.pair_workers.specs.Run.{IsRun, IsRound, joined, pairs, meetings_of, turns_in}
+use Rattle.pair_workers.specs.Run.{IsRunUntil, IsRound, joined, pairs, meetings_of, turns_in}
 use Rattle.pair_workers.specs.Played.{IsPlayed}
 use Rattle.pair_workers.specs.Turns.{HasPicked, ArePlayed}
 use Rattle.pair_workers.proofs.Played.{marked_append}
@@ -46,16 +46,16 @@ alone_played net start turns pickers before after ms end h size one found =
     picked (suc w) d l = absurd (omega (arith, l))
 
 -- the rounds so far, the crowd after them, the states of the pickers, and the turns that are left
-pub record AreOnTheRun (net : NetModel) (start : CrowdModel) (spec : RunSpec) (rounds : List (List Meeting)) (crowd : CrowdModel) (pickers : List (List ℕ)) (left : ℕ) : Type 0 where
+pub record AreOnTheRun (rest net : NetModel) (start : CrowdModel) (spec : RunSpec) (rounds : List (List Meeting)) (crowd : CrowdModel) (pickers : List (List ℕ)) (left : ℕ) : Type 0 where
   pub each : (k : ℕ) (meetings : List Meeting) → slice_get rounds k ≡ Some meetings → IsRound spec (k + 1) meetings
   pub picked : (w : ℕ) (d : List ℕ) → w < spec.workers → HasPicked (length start) (length (meetings_of w (joined rounds))) (first_state spec.seed w) (get_or pickers w d) (pairs (meetings_of w (joined rounds)))
   pub marked : AreMarked net (joined rounds) start
   pub replays : replay net (joined rounds) start ≡ crowd
-  pub goes_on : (k : ℕ) → k < length rounds → IsTerminal (Step net) (replay net (joined (take k rounds)) start) → ⊥
+  pub goes_on : (k : ℕ) → k < length rounds → IsTerminal (Step rest) (replay net (joined (take k rounds)) start) → ⊥
   pub unspent : left ≡ spec.turns - 4096 * length rounds
 
-pub all_no_rounds : (net : NetModel) (start : CrowdModel) (spec : RunSpec) (pickers : List (List ℕ)) → ((w : ℕ) (d : List ℕ) → w < spec.workers → get_or pickers w d ≡ first_state spec.seed w) → AreOnTheRun net start spec [] start pickers spec.turns
-all_no_rounds net start spec pickers first =
+pub all_no_rounds : (rest net : NetModel) (start : CrowdModel) (spec : RunSpec) (pickers : List (List ℕ)) → ((w : ℕ) (d : List ℕ) → w < spec.workers → get_or pickers w d ≡ first_state spec.seed w) → AreOnTheRun rest net start spec [] start pickers spec.turns
+all_no_rounds rest net start spec pickers first =
     record {
       each = λ k meetings h. cc;
       picked = λ w d l. subst (λ (p : List ℕ). HasPicked (length start) 0 (first_state spec.seed w) p []) (sym (first w d l)) (picked_none (length start) (first_state spec.seed w));
@@ -70,7 +70,7 @@ pub first_alone : (spec : RunSpec) (picker : List ℕ) → spec.workers ≡ 1 �
 first_alone spec picker one is zero d l = is
 first_alone spec picker one is (suc w) d l = absurd (omega (arith, l, one))
 
-module _ (net : NetModel) (start : CrowdModel) (spec : RunSpec) (rounds : List (List Meeting)) (crowd : CrowdModel) (pickers : List (List ℕ)) (left : ℕ) (h : AreOnTheRun net start spec rounds crowd pickers left) where
+module _ {rest : NetModel} (net : NetModel) (start : CrowdModel) (spec : RunSpec) (rounds : List (List Meeting)) (crowd : CrowdModel) (pickers : List (List ℕ)) (left : ℕ) (h : AreOnTheRun rest net start spec rounds crowd pickers left) where
   -- the turns of the next round
   pub next_turns : turns_in spec (length rounds + 1) ≡ min 4096 left
   next_turns = ap (λ n. min 4096 n) (let e : spec.turns - 4096 * (length rounds + 1 - 1) ≡ left = omega (arith, h.unspent) in e)
@@ -104,15 +104,15 @@ module _ (net : NetModel) (start : CrowdModel) (spec : RunSpec) (rounds : List (
         ∙ replay_append net (joined rounds) round start
         ∙ ap (replay net round) h.replays ∙ is
 
-    pub all_go_on : (IsTerminal (Step net) crowd → ⊥) → (k : ℕ) → k < length (rounds ++ round ∷ [])
-        → IsTerminal (Step net) (replay net (joined (take k (rounds ++ round ∷ []))) start) → ⊥
+    pub all_go_on : (IsTerminal (Step rest) crowd → ⊥) → (k : ℕ) → k < length (rounds ++ round ∷ [])
+        → IsTerminal (Step rest) (replay net (joined (take k (rounds ++ round ∷ []))) start) → ⊥
     all_go_on goes k b t = by_place (cases_lt k (length rounds))
       where
         by_place : (k < length rounds) ⊎ (length rounds ≤ k) → ⊥
-        by_place (inl c) = h.goes_on k c (subst (λ (rs : List (List Meeting)). IsTerminal (Step net) (replay net (joined rs) start)) (take-append-le k rounds (round ∷ []) (omega (arith, c))) t)
+        by_place (inl c) = h.goes_on k c (subst (λ (rs : List (List Meeting)). IsTerminal (Step rest) (replay net (joined rs) start)) (take-append-le k rounds (round ∷ []) (omega (arith, c))) t)
         by_place (inr c) =
             let all : take k (rounds ++ round ∷ []) ≡ rounds = take-append-le k rounds (round ∷ []) (omega (arith, b, length-append rounds (round ∷ []))) ∙ take_all k rounds c in
-            goes (subst (IsTerminal (Step net)) (ap (λ (rs : List (List Meeting)). replay net (joined rs) start) all ∙ h.replays) t)
+            goes (subst (IsTerminal (Step rest)) (ap (λ (rs : List (List Meeting)). replay net (joined rs) start) all ∙ h.replays) t)
 
   module _ (end : CrowdModel) (after : List (List ℕ)) (round : List Meeting) (p : ArePlayed net crowd spec.workers (min 4096 left) pickers after round end) where
     made : (w : ℕ) → w < spec.workers → length (meetings_of w round) ≡ min 4096 left
@@ -129,7 +129,7 @@ module _ (net : NetModel) (start : CrowdModel) (spec : RunSpec) (rounds : List (
         (picked_on (length start) (length xs) (min 4096 left) (first_state spec.seed w) (get_or pickers w d) (get_or after w d) (pairs xs) (pairs ys) (h.picked w d l) next)
 
     -- one more round
-    pub all_more_rounds : 1 ≤ left → (IsTerminal (Step net) crowd → ⊥) → AreOnTheRun net start spec (rounds ++ round ∷ []) end after (left - min 4096 left)
+    pub all_more_rounds : 1 ≤ left → (IsTerminal (Step rest) crowd → ⊥) → AreOnTheRun rest net start spec (rounds ++ round ∷ []) end after (left - min 4096 left)
     all_more_rounds l goes =
         record {
           each = λ k meetings e. each_case k meetings (get_pushed rounds round meetings k e);
@@ -150,7 +150,7 @@ module _ (net : NetModel) (start : CrowdModel) (spec : RunSpec) (rounds : List (
             })
 
   -- a run that is over
-  pub all_run_over : IsTerminal (Step net) crowd ⊎ (left ≡ 0) → IsRun net start spec rounds crowd
+  pub all_run_over : IsTerminal (Step rest) crowd ⊎ (left ≡ 0) → IsRunUntil rest net start spec rounds crowd
   all_run_over end =
       record {
         each_round = h.each;
@@ -168,6 +168,6 @@ module _ (net : NetModel) (start : CrowdModel) (spec : RunSpec) (rounds : List (
           ∙ sym ((h.picked w [] l).picked 0)
           ∙ ap (λ n. picks spec.seed w (length start) n) (let e : length ms + 0 ≡ length ms = omega arith in e)
 
-      over : IsTerminal (Step net) crowd ⊎ (left ≡ 0) → IsTerminal (Step net) crowd ⊎ (spec.turns ≤ 4096 * length rounds)
+      over : IsTerminal (Step rest) crowd ⊎ (left ≡ 0) → IsTerminal (Step rest) crowd ⊎ (spec.turns ≤ 4096 * length rounds)
       over (inl t) = inl t
       over (inr e) = inr (omega (arith, e, h.unspent))

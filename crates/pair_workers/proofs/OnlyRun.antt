@@ -14,8 +14,8 @@ use Rattle.pop_crowd.specs.declared.crowd.Meeting.{Meeting}
 use Rattle.pop_crowd.specs.Replay.{replay, changes, AreMarked}
 use Rattle.pop_words.specs.declared.spec.RunSpec.{RunSpec}
 use Rattle.pair_workers.specs.Picks.{pick_of, picks_from, words_from, first_state}
-use Rattle.pair_workers.specs.Run.{IsRun, IsRound, joined, pairs, turns_in}
-use Rattle.pair_workers.specs.OneRun.{IsOnlyRun}
+use Rattle.pair_workers.specs.Run.{IsRunUntil, IsRound, joined, pairs, turns_in}
+use Rattle.pair_workers.specs.OneRun.{IsOnlyRunUntil}
 use Rattle.pair_workers.proofs.Rounds.{all_mine}
 use Rattle.list_laws.proofs.Lists.{heads, tails}
 
@@ -89,14 +89,14 @@ module _ (net : NetModel) (start : CrowdModel) (spec : RunSpec) (alone : spec.wo
       All-append Mine r (joined rounds) (mine (k + 0 + 1) r (each 0 r refl))
       (joined_mine rounds (k + 1) (λ i s h. subst (λ n. IsRound spec n s) (let e : k + suc i + 1 ≡ k + 1 + i + 1 = omega arith in e) (each (suc i) s h)))
 
-  module _ (rounds others : List (List Meeting)) (end other : CrowdModel) (run : IsRun net start spec rounds end) (second : IsRun net start spec others other) where
+  module _ {rest : NetModel} (rounds others : List (List Meeting)) (end other : CrowdModel) (run : IsRunUntil rest net start spec rounds end) (second : IsRunUntil rest net start spec others other) where
     alike : AlikeLong rounds others
     alike k r o h j = round_long (k + 1) r (run.each_round k r h) ∙ sym (round_long (k + 1) o (second.each_round k o j))
 
-    all_of : (rs : List (List Meeting)) (e : CrowdModel) → IsRun net start spec rs e → All Mine (joined rs)
+    all_of : (rs : List (List Meeting)) (e : CrowdModel) → IsRunUntil rest net start spec rs e → All Mine (joined rs)
     all_of rs e is = joined_mine rs 0 (λ i r h. subst (λ n. IsRound spec n r) (let e : i + 1 ≡ 0 + i + 1 = omega arith in e) (is.each_round i r h))
 
-    picked_of : (rs : List (List Meeting)) (e : CrowdModel) → IsRun net start spec rs e → pairs (joined rs) ≡ picks_from (words_from (first_state spec.seed 0)) (length start) (length (joined rs))
+    picked_of : (rs : List (List Meeting)) (e : CrowdModel) → IsRunUntil rest net start spec rs e → pairs (joined rs) ≡ picks_from (words_from (first_state spec.seed 0)) (length start) (length (joined rs))
     picked_of rs e is = rw (all_mine (joined rs) (all_of rs e is)) at (is.picked 0 (omega (arith, alone)))
 
     -- a run with no more rounds is a prefix of the other
@@ -109,20 +109,20 @@ module _ (net : NetModel) (start : CrowdModel) (spec : RunSpec) (alone : spec.wo
     not_fewer : length rounds < length others → ⊥
     not_fewer l = ended run.over
       where
-        goes : IsTerminal (Step net) end → ⊥
+        goes : IsTerminal (Step rest) end → ⊥
         goes t =
             second.goes_on (length rounds) l
-            (subst (λ (rs : List (List Meeting)). IsTerminal (Step net) (replay net (joined rs) start)) (begins (omega (arith, l))) (subst (IsTerminal (Step net)) (sym run.replays) t))
+            (subst (λ (rs : List (List Meeting)). IsTerminal (Step rest) (replay net (joined rs) start)) (begins (omega (arith, l))) (subst (IsTerminal (Step rest)) (sym run.replays) t))
 
-        ended : IsTerminal (Step net) end ⊎ (spec.turns ≤ 4096 * length rounds) → ⊥
+        ended : IsTerminal (Step rest) end ⊎ (spec.turns ≤ 4096 * length rounds) → ⊥
         ended (inl t) = goes t
         ended (inr spent) =
             let round = second.each_round (length rounds) _ (slice_get-get_or others (length rounds) [] l) in
             absurd (omega (arith, round.some_turn, spent))
 
 -- two runs by one worker are equal
-pub only_run : (net : NetModel) (start : CrowdModel) (spec : RunSpec) (rounds : List (List Meeting)) (end : CrowdModel) → spec.workers ≡ 1 → IsRun net start spec rounds end → IsOnlyRun net start spec rounds end
-only_run net start spec rounds end alone run others other second = by_length (cases_lt (length rounds) (length others)) (cases_lt (length others) (length rounds))
+pub only_run : {rest : NetModel} (net : NetModel) (start : CrowdModel) (spec : RunSpec) (rounds : List (List Meeting)) (end : CrowdModel) → spec.workers ≡ 1 → IsRunUntil rest net start spec rounds end → IsOnlyRunUntil rest net start spec rounds end
+only_run {rest} net start spec rounds end alone run others other second = by_length (cases_lt (length rounds) (length others)) (cases_lt (length others) (length rounds))
   where
     ends : others ≡ rounds → (others ≡ rounds) × (other ≡ end)
     ends same = (same, sym second.replays ∙ ap (λ rs. replay net (joined rs) start) same ∙ run.replays)

@@ -1,5 +1,5 @@
 -- A run by one worker that is being made and given away.
-use Rattle.std.proofs.Common.{◌≡◌, ℕ, ◌+◌, List, [], ◌∷◌, ◌++◌, length, refl, subst, sym, arith}
+use Rattle.std.proofs.Common.{◌≡◌, ℕ, ◌+◌, List, [], ◌∷◌, ◌++◌, length, refl, subst, arith}
 use Rattle.pop_net.specs.NetModel.{NetModel, CrowdModel}
 use Rattle.pop_crowd.specs.declared.crowd.Meeting.{Meeting}
 use Rattle.pop_words.specs.declared.spec.RunSpec.{RunSpec}
@@ -7,9 +7,9 @@ use Rattle.pair_workers.specs.TakenRun.{Step, TakesAll}
 use Rattle.pair_workers.proofs.ManyRounds.{AreOnTheRun}
 
 -- some rounds were made and taken
-pub record Making {S : Type 0} (takes : Step S) (net : NetModel) (start : CrowdModel) (spec : RunSpec) (before after : S) (crowd : CrowdModel) (picker : List ℕ) (left number : ℕ) : Type 0 where
+pub record Making {S : Type 0} (takes : Step S) (rest net : NetModel) (start : CrowdModel) (spec : RunSpec) (before after : S) (crowd : CrowdModel) (picker : List ℕ) (left number : ℕ) : Type 0 where
   pub rounds : List (List Meeting)
-  pub run : AreOnTheRun net start spec rounds crowd (picker ∷ []) left
+  pub run : AreOnTheRun rest net start spec rounds crowd (picker ∷ []) left
   pub taken : TakesAll takes before 1 rounds after
   pub next : number ≡ length rounds + 1
 

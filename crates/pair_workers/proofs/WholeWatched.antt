@@ -3,8 +3,8 @@ use Rattle.std.proofs.Common.{ℕ, ◌+◌, List, arith}
 use Rattle.pop_net.specs.NetModel.{NetModel, CrowdModel}
 use Rattle.pop_crowd.specs.declared.crowd.Meeting.{Meeting}
 use Rattle.pop_words.specs.declared.spec.RunSpec.{RunSpec}
-use Rattle.pair_workers.specs.Run.{IsRun, IsRound}
-use Rattle.pair_workers.specs.WatchedRun.{IsWatchedRound, IsWatchedRun}
+use Rattle.pair_workers.specs.Run.{IsRunUntil, IsRound}
+use Rattle.pair_workers.specs.WatchedRun.{IsWatchedRound, IsWatchedRunUntil}
 use Rattle.pair_workers.proofs.SpentTurns.{over_by_meetings}
 
 -- a whole round is a watched one
@@ -17,7 +17,7 @@ watched_round spec k meetings r =
     }
 
 -- a run by whole rounds is a watched run
-pub whole_is_watched : (net : NetModel) (start : CrowdModel) (spec : RunSpec) (rounds : List (List Meeting)) (end : CrowdModel) → IsRun net start spec rounds end → IsWatchedRun net start spec rounds end
+pub whole_is_watched : {rest : NetModel} (net : NetModel) (start : CrowdModel) (spec : RunSpec) (rounds : List (List Meeting)) (end : CrowdModel) → IsRunUntil rest net start spec rounds end → IsWatchedRunUntil rest net start spec rounds end
 whole_is_watched net start spec rounds end run =
     record {
       each_round = λ k meetings h. watched_round spec (k + 1) meetings (run.each_round k meetings h);

@@ -13,7 +13,7 @@ use Rattle.pair_workers.specs.declared.alone.End.{End}
 use Rattle.pair_workers.specs.declared.alone.RunEnd.{RunEnd}
 use Rattle.pair_workers.specs.declared.alone.End.TheVariants.{Terminal, Open}
 use Rattle.pair_workers.specs.Picks.{first_state}
-use Rattle.pair_workers.specs.Run.{IsRun}
+use Rattle.pair_workers.specs.Run.{IsRunUntil}
 
 -- a picker for each worker, none of which has made a pick
 pub record AreFirstPickers (spec : RunSpec) (pickers : List (List ℕ)) : Type 0 where
@@ -41,9 +41,13 @@ EndsBy net crowd spec rounds Terminal = IsTerminal (Step net) crowd
 EndsBy net crowd spec rounds (Open a b) =
     IsLeastPair net crowd a b × (spec.turns ≤ ROUND_TURNS * rounds) × (IsTerminal (Step net) crowd → ⊥)
 
--- a run from this crowd: its rounds, the crowd that they lead to, and why it ended
-pub record IsRunFrom (net : NetModel) (crowd : List Word) (spec : RunSpec) (ran : RunEnd) : Type 0 where
-  pub run : IsRun net (crowd_of net crowd) spec ran.rounds (crowd_of net ran.crowd)
-  pub ends : EndsBy net (crowd_of net ran.crowd) spec (length ran.rounds) ran.end
+-- a run from this crowd until it is terminal in rest: its rounds, the crowd that they lead to, and why it ended
+pub record IsRunFromUntil (rest net : NetModel) (crowd : List Word) (spec : RunSpec) (ran : RunEnd) : Type 0 where
+  pub run : IsRunUntil rest net (crowd_of net crowd) spec ran.rounds (crowd_of net ran.crowd)
+  pub ends : EndsBy rest (crowd_of net ran.crowd) spec (length ran.rounds) ran.end
   pub valid : AreValid net ran.crowd
   pub agents : length ran.crowd ≡ length crowd
+
+-- such a run up to a terminal crowd
+abbrev pub IsRunFrom : NetModel → List Word → RunSpec → RunEnd → Type 0
+IsRunFrom net crowd spec ran = IsRunFromUntil net net crowd spec ran

@@ -6,16 +6,24 @@ use Rattle.pop_net.specs.declared.net.Word.{Word}
 use Rattle.pop_crowd.specs.declared.crowd.Meeting.{Meeting}
 use Rattle.pop_words.specs.declared.spec.RunSpec.{RunSpec}
 use Rattle.pair_workers.specs.declared.alone.RunEnd.{RunEnd}
-use Rattle.pair_workers.specs.Run.{IsRun}
-use Rattle.pair_workers.specs.Ends.{IsRunFrom}
+use Rattle.pair_workers.specs.Run.{IsRunUntil}
+use Rattle.pair_workers.specs.Ends.{IsRunFromUntil}
 
--- every run from the start has these rounds and this end
+-- every run from the start until the crowd is terminal in the first net has these rounds and this end
+abbrev pub IsOnlyRunUntil : NetModel → NetModel → CrowdModel → RunSpec → List (List Meeting) → CrowdModel → Type 0
+IsOnlyRunUntil rest net start spec rounds end =
+    (others : List (List Meeting)) (other : CrowdModel) → IsRunUntil rest net start spec others other
+    → (others ≡ rounds) × (other ≡ end)
+
+-- the same for runs up to a terminal crowd
 abbrev pub IsOnlyRun : NetModel → CrowdModel → RunSpec → List (List Meeting) → CrowdModel → Type 0
-IsOnlyRun net start spec rounds end =
-    (others : List (List Meeting)) (other : CrowdModel) → IsRun net start spec others other → (others ≡ rounds)
-    × (other ≡ end)
+IsOnlyRun net start spec rounds end = IsOnlyRunUntil net net start spec rounds end
 
--- a run from this crowd, which is the only one
-pub record IsOnlyRunFrom (net : NetModel) (crowd : List Word) (spec : RunSpec) (ran : RunEnd) : Type 0 where
-  pub run : IsRunFrom net crowd spec ran
-  pub only : IsOnlyRun net (crowd_of net crowd) spec ran.rounds (crowd_of net ran.crowd)
+-- a run from this crowd until it is terminal in rest, which is the only one
+pub record IsOnlyRunFromUntil (rest net : NetModel) (crowd : List Word) (spec : RunSpec) (ran : RunEnd) : Type 0 where
+  pub run : IsRunFromUntil rest net crowd spec ran
+  pub only : IsOnlyRunUntil rest net (crowd_of net crowd) spec ran.rounds (crowd_of net ran.crowd)
+
+-- such a run up to a terminal crowd
+abbrev pub IsOnlyRunFrom : NetModel → List Word → RunSpec → RunEnd → Type 0
+IsOnlyRunFrom net crowd spec ran = IsOnlyRunFromUntil net net crowd spec ran

@@ -1,4 +1,4 @@
--- Run: rounds of meetings by workers who each make their picks, up to a terminal crowd or to the last turn.
+-- Run: rounds of meetings by workers who each make their picks, up to a crowd in which a net rests or to the last turn.
 use Rattle.std.specs.Prelude.{◌≡◌, ◌⊎◌, ℕ, ◌+◌, ◌-◌, ◌*◌, ◌<◌, ◌≤◌, min, ◌==◌, List, length, map, filter, take, All}
 use Rattle.std.specs.Prelude.{flat_map, Some, slice_get}
 use Rattle.pop_net.specs.NetModel.{NetModel, CrowdModel}
@@ -35,7 +35,8 @@ pub record IsRound (spec : RunSpec) (k : ℕ) (meetings : List Meeting) : Type 0
   pub each_worker : (w : ℕ) → w < spec.workers → made_by w meetings ≡ turns_in spec k
   pub nobody_else : All (λ m. m.worker < spec.workers) meetings
 
-pub record IsRun (net : NetModel) (start : CrowdModel) (spec : RunSpec) (rounds : List (List Meeting))
+-- a run by the meetings of net, which is over once the crowd is terminal in rest
+pub record IsRunUntil (rest net : NetModel) (start : CrowdModel) (spec : RunSpec) (rounds : List (List Meeting))
     (end : CrowdModel) : Type 0 where
   pub each_round : (k : ℕ) (meetings : List Meeting) → slice_get rounds k ≡ Some meetings
       → IsRound spec (k + 1) meetings
@@ -45,7 +46,11 @@ pub record IsRun (net : NetModel) (start : CrowdModel) (spec : RunSpec) (rounds 
   -- each meeting correctly says whether it changes a tuple
   pub marked : AreMarked net (joined rounds) start
   pub replays : replay net (joined rounds) start ≡ end
-  -- no crowd before a round is terminal
-  pub goes_on : (k : ℕ) → k < length rounds → IsTerminal (Step net) (replay net (joined (take k rounds)) start) → ⊥
-  -- the end is terminal, or the turns are spent
-  pub over : IsTerminal (Step net) end ⊎ (spec.turns ≤ ROUND_TURNS * length rounds)
+  -- no crowd before a round is terminal in rest
+  pub goes_on : (k : ℕ) → k < length rounds → IsTerminal (Step rest) (replay net (joined (take k rounds)) start) → ⊥
+  -- the end is terminal in rest, or the turns are spent
+  pub over : IsTerminal (Step rest) end ⊎ (spec.turns ≤ ROUND_TURNS * length rounds)
+
+-- a run up to a terminal crowd
+abbrev pub IsRun : NetModel → CrowdModel → RunSpec → List (List Meeting) → CrowdModel → Type 0
+IsRun net start spec rounds end = IsRunUntil net net start spec rounds end

@@ -5,7 +5,7 @@ use Rattle.pop_net.specs.declared.net.Word.{Word}
 use Rattle.pop_crowd.specs.declared.crowd.Meeting.{Meeting}
 use Rattle.pop_words.specs.declared.spec.RunSpec.{RunSpec}
 use Rattle.pair_workers.specs.declared.alone.End.{End}
-use Rattle.pair_workers.specs.OneRun.{IsOnlyRunFrom}
+use Rattle.pair_workers.specs.OneRun.{IsOnlyRunFromUntil}
 
 -- what is given away in one step, of a type S: what it was before, the round's number and meetings, and what it is after
 abbrev pub Step : Type 0 → Type 1
@@ -16,9 +16,9 @@ abbrev pub TakesAll : {S : Type 0} → Step S → S → ℕ → List (List Meeti
 TakesAll takes before n [] after = after ≡ before
 TakesAll takes before n (round ∷ rounds) after = (between : _) × takes before n round between × TakesAll takes between (n + 1) rounds after
 
--- a run from a crowd to this end, which is the only one, and whose rounds were taken
-pub record IsTakenRun {S : Type 0} (takes : Step S) (net : NetModel) (crowd : List Word) (spec : RunSpec) (before after : S)
-    (last : List Word) (end : End) : Type 0 where
+-- a run from a crowd to this end until it is terminal in rest, which is the only one, and whose rounds were taken
+pub record IsTakenRunUntil {S : Type 0} (takes : Step S) (rest net : NetModel) (crowd : List Word) (spec : RunSpec)
+    (before after : S) (last : List Word) (end : End) : Type 0 where
   pub rounds : List (List Meeting)
-  pub run : IsOnlyRunFrom net crowd spec (record { rounds = rounds; crowd = last; end = end })
+  pub run : IsOnlyRunFromUntil rest net crowd spec (record { rounds = rounds; crowd = last; end = end })
   pub taken : TakesAll takes before 1 rounds after

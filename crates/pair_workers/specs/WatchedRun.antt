@@ -1,5 +1,4 @@
--- Watched run: a run whose last round may lack meetings if the crowd after it is terminal. A run by whole rounds is
--- one too.
+-- Watched run: a run whose last round may lack meetings if the run is over with it. A run by whole rounds is one too.
 use Rattle.std.specs.Prelude.{◌≡◌, ◌⊎◌, ℕ, ◌+◌, ◌<◌, ◌≤◌, List, length, take, All, Some, slice_get}
 use Rattle.pop_net.specs.NetModel.{NetModel, CrowdModel}
 use Rattle.pop_net.specs.Step.{Step}
@@ -10,7 +9,7 @@ use Rattle.pop_words.specs.declared.spec.RunSpec.{RunSpec}
 use Rattle.pop_words.specs.declared.kind.RunKind.{RunKind}
 use Rattle.pop_words.specs.declared.kind.RunKind.TheVariants.{Whole, Watched}
 use Rattle.pair_workers.specs.Picks.{picks}
-use Rattle.pair_workers.specs.Run.{IsRound, IsRun, meetings_of, made_by, pairs, joined, turns_in}
+use Rattle.pair_workers.specs.Run.{IsRound, IsRunUntil, meetings_of, made_by, pairs, joined, turns_in}
 
 -- round k, counted from 1: there is a turn to make, each worker makes at most its turns, and nobody else makes any
 pub record IsWatchedRound (spec : RunSpec) (k : ℕ) (meetings : List Meeting) : Type 0 where
@@ -22,7 +21,8 @@ pub record IsWatchedRound (spec : RunSpec) (k : ℕ) (meetings : List Meeting) :
 abbrev pub AreSpent : RunSpec → List (List Meeting) → Type 0
 AreSpent spec rounds = (w : ℕ) → w < spec.workers → made_by w (joined rounds) ≡ spec.turns
 
-pub record IsWatchedRun (net : NetModel) (start : CrowdModel) (spec : RunSpec) (rounds : List (List Meeting))
+-- a watched run by the meetings of net, which is over once the crowd is terminal in rest
+pub record IsWatchedRunUntil (rest net : NetModel) (start : CrowdModel) (spec : RunSpec) (rounds : List (List Meeting))
     (end : CrowdModel) : Type 0 where
   pub each_round : (k : ℕ) (meetings : List Meeting) → slice_get rounds k ≡ Some meetings
       → IsWatchedRound spec (k + 1) meetings
@@ -35,12 +35,21 @@ pub record IsWatchedRun (net : NetModel) (start : CrowdModel) (spec : RunSpec) (
   -- each meeting correctly says whether it changes a tuple
   pub marked : AreMarked net (joined rounds) start
   pub replays : replay net (joined rounds) start ≡ end
-  -- no crowd before a round is terminal
-  pub goes_on : (k : ℕ) → k < length rounds → IsTerminal (Step net) (replay net (joined (take k rounds)) start) → ⊥
-  -- the end is terminal, or the turns are spent
-  pub over : IsTerminal (Step net) end ⊎ AreSpent spec rounds
+  -- no crowd before a round is terminal in rest
+  pub goes_on : (k : ℕ) → k < length rounds → IsTerminal (Step rest) (replay net (joined (take k rounds)) start) → ⊥
+  -- the end is terminal in rest, or the turns are spent
+  pub over : IsTerminal (Step rest) end ⊎ AreSpent spec rounds
 
--- a run of this kind
+-- a watched run up to a terminal crowd
+abbrev pub IsWatchedRun : NetModel → CrowdModel → RunSpec → List (List Meeting) → CrowdModel → Type 0
+IsWatchedRun net start spec rounds end = IsWatchedRunUntil net net start spec rounds end
+
+-- a run of this kind by the meetings of the second net, which is over once the crowd is terminal in the first
+abbrev pub IsRunOfUntil : RunKind → NetModel → NetModel → CrowdModel → RunSpec → List (List Meeting) → CrowdModel
+    → Type 0
+IsRunOfUntil Whole rest net start spec rounds end = IsRunUntil rest net start spec rounds end
+IsRunOfUntil Watched rest net start spec rounds end = IsWatchedRunUntil rest net start spec rounds end
+
+-- a run of this kind up to a terminal crowd
 abbrev pub IsRunOf : RunKind → NetModel → CrowdModel → RunSpec → List (List Meeting) → CrowdModel → Type 0
-IsRunOf Whole net start spec rounds end = IsRun net start spec rounds end
-IsRunOf Watched net start spec rounds end = IsWatchedRun net start spec rounds end
+IsRunOf kind net start spec rounds end = IsRunOfUntil kind net net start spec rounds end

@@ -15,6 +15,7 @@ use pop_io::{Gate, List, NoMemory};
 use pop_net::Net;
 use pop_words::RunSpec;
 use std::alloc::Global;
+use terminal_test::PairTable;
 
 /// The most meetings of a worker in a round.
 pub const ROUND_TURNS: u64 = 4_096;
@@ -67,7 +68,8 @@ pub fn run_alone<G: Gate>(
     let mut kept = KeptRounds {
         rounds: Vec::new(alloc),
     };
-    let (crowd, end) = run_into(alloc, net, crowd, spec, gate, &mut kept)?;
+    let table = PairTable::new(alloc, net)?;
+    let (crowd, end) = run_into(alloc, net, &table, crowd, spec, gate, &mut kept)?;
     let KeptRounds { rounds } = kept;
     Ok(RunEnd {
         rounds: List::from_vec(rounds),

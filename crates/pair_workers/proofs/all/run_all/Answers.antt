@@ -7,7 +7,7 @@ use Rattle.pair_workers.specs.Turns.{ArePlayed}
 use Rattle.pair_workers.specs.Ends.{RunGoesOn}
 use Rattle.pair_workers.proofs.OnlyRun.{only_run}
 use Rattle.pair_workers.proofs.ManyRounds.{AreOnTheRun, all_more_rounds, all_no_rounds}
-use Rattle.pair_workers.proofs.RunEnds.{run_ended}
+use Rattle.pair_workers.proofs.RunEnds.{run_ended_at_net}
 use Rattle.pair_workers.proofs.all.run_all.Goals as goal
 
 pub rounds-preserved : goal.rounds-preserved
@@ -28,7 +28,7 @@ rounds-preserved g c =
     let left : c.rounds.left - min 4096 c.rounds.left ≡ c.rounds.left - c.min-turns.result = ap (λ n. c.rounds.left - n) (sym least) in
     let on = all_more_rounds net start spec c.rounds.rounds.items _ old c.rounds.left was.run (crowd_of net after.crowd) after.pickers.items round played more.0 more.1 in
     record {
-      run = subst (λ (t : List (List Meeting) × ℕ). AreOnTheRun net start spec t.0 (crowd_of net after.crowd) after.pickers.items t.1) (λ i. (sym pushed i, left i)) on;
+      run = subst (λ (t : List (List Meeting) × ℕ). AreOnTheRun net net start spec t.0 (crowd_of net after.crowd) after.pickers.items t.1) (λ i. (sym pushed i, left i)) on;
       valid = is.valid;
       agents = is.agents ∙ was.agents;
       pickers = is.pickers ∙ was.pickers;
@@ -40,7 +40,7 @@ pub returns : goal.returns
 returns g c =
     let net = c.args.net.now in
     let was = c.rounds.invariant in
-    let run = run_ended net _ c.args.crowd c.rounds.crowd c.args.spec.now c.rounds.rounds.items _ c.rounds.pickers.items c.rounds.left c.in_ok-goes_on.field-0 c.in_ok-end.end was.run was.valid was.agents c.if-branch.false c.in_ok-table.ensures c.in_ok-goes_on.ensures c.in_ok-end.ensures c.from_vec-2.ensures in
+    let run = run_ended_at_net _ net c.args.crowd c.rounds.crowd c.args.spec.now c.rounds.rounds.items _ c.rounds.pickers.items c.rounds.left c.in_ok-goes_on.field-0 c.in_ok-end.end was.run was.valid was.agents c.if-branch.false c.in_ok-table.ensures c.in_ok-goes_on.ensures c.in_ok-end.ensures c.from_vec-2.ensures in
     record {
       run = run;
       only = λ alone. only_run net _ c.args.spec.now _ _ alone run.run;
@@ -53,8 +53,8 @@ rounds-init g c =
     let spec = c.args.spec.now in
     let first = c.in_ok-pickers.ensures in
     record {
-      run = subst (λ (rounds : List (List Meeting)). AreOnTheRun net start spec rounds start c.in_ok-pickers.pickers.items spec.turns) (sym c.new-rounds.ensures.items)
-          (all_no_rounds net start spec c.in_ok-pickers.pickers.items first.first);
+      run = subst (λ (rounds : List (List Meeting)). AreOnTheRun net net start spec rounds start c.in_ok-pickers.pickers.items spec.turns) (sym c.new-rounds.ensures.items)
+          (all_no_rounds net net start spec c.in_ok-pickers.pickers.items first.first);
       valid = c.requires.valid;
       agents = refl;
       pickers = first.long;

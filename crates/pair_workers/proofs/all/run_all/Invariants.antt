@@ -6,7 +6,7 @@ use Rattle.pair_workers.proofs.all.run_all.Given as goal
 
 abbrev pub invariant-rounds : goal.invariant-rounds
 invariant-rounds g l = record {
-  run : AreOnTheRun l.net (crowd_of l.net l.fn.crowd) l.spec l.rounds.items (crowd_of l.net l.crowd) l.pickers.items l.left;
+  run : AreOnTheRun l.net l.net (crowd_of l.net l.fn.crowd) l.spec l.rounds.items (crowd_of l.net l.crowd) l.pickers.items l.left;
   valid : AreValid l.net l.crowd;
   agents : length l.crowd ≡ length l.fn.crowd;
   pickers : length l.pickers.items ≡ l.spec.workers;

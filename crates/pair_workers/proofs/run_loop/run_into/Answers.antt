@@ -1,17 +1,17 @@
-use Rattle.std.proofs.Common.{◌≡◌, ℕ, ◌-◌, min, [], ◌∷◌, ◌++◌, sym, ap, subst, ◌∙◌, arith, rules, refl, length-append}
-use Rattle.std.specs.Prelude.{true, ◌↔◌}
-use Rattle.pop_net.specs.NetModel.{NetModel}
-use Rattle.pop_net.specs.Lanes.{crowd_of, AreValid}
+use Rattle.std.proofs.Common.{◌≡◌, ℕ, ◌-◌, min, [], ◌∷◌, ◌++◌, sym, ap, subst, ◌∙◌, arith, refl, length-append}
+use Rattle.pop_net.specs.Lanes.{crowd_of}
+use Rattle.terminal_test.specs.TableNet.{table_net}
 use Rattle.pair_workers.specs.Turns.{ArePlayed}
-use Rattle.pair_workers.specs.Ends.{RunGoesOn}
 use Rattle.pair_workers.proofs.ManyRounds.{AreOnTheRun, alone_played, all_more_rounds, all_no_rounds, first_alone}
 use Rattle.pair_workers.proofs.OnlyRun.{only_run}
-use Rattle.pair_workers.proofs.RunEnds.{run_ended}
+use Rattle.pair_workers.proofs.RunEnds.{goes_at, run_ended}
+use Rattle.pair_workers.proofs.SameLanes.{valid_same}
 use Rattle.pair_workers.proofs.Taken.{takes_more}
 use Rattle.pair_workers.proofs.run_loop.run_into.Goals as goal
 
 pub rounds-preserved : goal.rounds-preserved
 rounds-preserved g c =
+    let rest = table_net c.args.table.now in
     let net = c.args.net.now in
     let spec = c.args.spec.now in
     let start = crowd_of net c.args.crowd in
@@ -21,7 +21,7 @@ rounds-preserved g c =
     let meetings = c.in_ok-meetings.meetings.items in
     let plays = c.in_ok-meetings.ensures.1 in
     let least : c.min-turns.result ≡ min 4096 c.rounds.left = c.min-turns.ensures in
-    let more = (subst (λ (n : NetModel). (c.in_ok-goes_on.field-0 ≡ true) ↔ RunGoesOn n (crowd_of n c.rounds.crowd) c.rounds.left) c.in_ok-table.ensures c.in_ok-goes_on.ensures).0 c.if-branch.true in
+    let more = (goes_at rest net c.rounds.crowd c.rounds.left c.in_ok-goes_on.field-0 c.requires.lanes c.in_ok-goes_on.ensures).0 c.if-branch.true in
     let alone = alone_played net (crowd_of net c.rounds.crowd) (min 4096 c.rounds.left) (before ∷ []) before after meetings (crowd_of net c.play_round.new.crowd)
     plays.played (c.in_ok-meetings.ensures.0 ∙ least) refl (λ d. refl) in
     let played : ArePlayed net (crowd_of net c.rounds.crowd) spec.workers (min 4096 c.rounds.left) (before ∷ []) (after ∷ []) meetings (crowd_of net c.play_round.new.crowd) =
@@ -30,7 +30,7 @@ rounds-preserved g c =
     record {
       making = record {
         rounds = making.rounds ++ meetings ∷ [];
-        run = subst (λ (n : ℕ). AreOnTheRun net start spec (making.rounds ++ meetings ∷ []) (crowd_of net c.play_round.new.crowd) (after ∷ []) n) left
+        run = subst (λ (n : ℕ). AreOnTheRun rest net start spec (making.rounds ++ meetings ∷ []) (crowd_of net c.play_round.new.crowd) (after ∷ []) n) left
             (all_more_rounds net start spec making.rounds _ (before ∷ []) c.rounds.left making.run _ (after ∷ []) meetings played more.0 more.1);
         taken = takes_more g.S.RoundSink.takes _ _ _ 1 c.rounds.number making.rounds meetings making.next making.taken c.in_ok-take.ensures;
         next = omega (arith, making.next, length-append making.rounds (meetings ∷ []));
@@ -43,10 +43,11 @@ rounds-preserved g c =
 
 pub returns : goal.returns
 returns g c =
+    let rest = table_net c.args.table.now in
     let net = c.args.net.now in
     let was = c.rounds.invariant in
     let making = was.making in
-    let run = run_ended net _ c.args.crowd c.rounds.crowd c.args.spec.now making.rounds making.rounds (c.rounds.picker ∷ []) c.rounds.left c.in_ok-goes_on.field-0 c.in_ok-end.end making.run was.valid was.agents c.if-branch.false c.in_ok-table.ensures c.in_ok-goes_on.ensures c.in_ok-end.ensures refl in
+    let run = run_ended rest net c.args.crowd c.rounds.crowd c.args.spec.now making.rounds making.rounds (c.rounds.picker ∷ []) c.rounds.left c.in_ok-goes_on.field-0 c.in_ok-end.end making.run was.valid was.agents c.if-branch.false c.requires.lanes c.in_ok-goes_on.ensures c.in_ok-end.ensures refl in
     record {
       rounds = making.rounds;
       run = record { run = run; only = only_run net _ c.args.spec.now _ _ c.requires.alone run.run };
@@ -55,6 +56,7 @@ returns g c =
 
 pub rounds-init : goal.rounds-init
 rounds-init g c =
+    let rest = table_net c.args.table.now in
     let net = c.args.net.now in
     let start = crowd_of net c.args.crowd in
     let spec = c.args.spec.now in
@@ -62,7 +64,7 @@ rounds-init g c =
     record {
       making = record {
         rounds = [];
-        run = all_no_rounds net start spec (picker ∷ []) (first_alone spec picker c.requires.alone c.new-picker.ensures.state);
+        run = all_no_rounds rest net start spec (picker ∷ []) (first_alone spec picker c.requires.alone c.new-picker.ensures.state);
         taken = refl;
         next = refl;
       };
@@ -73,7 +75,7 @@ rounds-init g c =
     }
 
 pub goes_on-requires : goal.goes_on-requires
-goes_on-requires g c = subst (λ (n : NetModel). AreValid n c.rounds.crowd) (sym c.in_ok-table.ensures) c.rounds.invariant.valid
+goes_on-requires g c = valid_same c.args.net.now (table_net c.args.table.now) (sym c.requires.lanes) c.rounds.crowd c.rounds.invariant.valid
 
 pub end_of-requires : goal.end_of-requires
-end_of-requires g c = subst (λ (n : NetModel). AreValid n c.rounds.crowd) (sym c.in_ok-table.ensures) c.rounds.invariant.valid
+end_of-requires g c = valid_same c.args.net.now (table_net c.args.table.now) (sym c.requires.lanes) c.rounds.crowd c.rounds.invariant.valid
