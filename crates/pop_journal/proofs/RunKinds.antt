@@ -10,8 +10,8 @@ use Rattle.pop_words.specs.declared.kind.RunKind.{RunKind}
 use Rattle.pop_words.specs.declared.kind.RunKind.TheVariants.{Whole, Watched}
 use Rattle.pop_words.specs.Kinds.{most_workers_of}
 use Rattle.pair_workers.specs.Picks.{words_from, first_state}
-use Rattle.pair_workers.specs.Run.{IsRun, joined, meetings_of}
-use Rattle.pair_workers.specs.WatchedRun.{IsWatchedRound, IsWatchedRun, IsRunOf}
+use Rattle.pair_workers.specs.Run.{IsRunUntil, joined, meetings_of}
+use Rattle.pair_workers.specs.WatchedRun.{IsWatchedRound, IsWatchedRun, IsWatchedRunUntil, IsRunOf, IsRunOfUntil}
 use Rattle.pair_workers.proofs.Meets.{picked_meet}
 use Rattle.pair_workers.proofs.Rounds.{joined_all}
 use Rattle.pair_workers.proofs.SpentTurns.{over_by_rounds}
@@ -48,13 +48,14 @@ module _ (spec : RunSpec) where
     are_watched Whole form = watched_rounds form
     are_watched Watched form = form
 
-module _ (net : NetModel) (start : CrowdModel) (spec : RunSpec) (rounds : List (List Meeting)) (end : CrowdModel) where
-  pub is_watched : (kind : RunKind) → IsRunOf kind net start spec rounds end → IsWatchedRun net start spec rounds end
-  is_watched Whole run = whole_is_watched net start spec rounds end run
-  is_watched Watched run = run
+-- up to a crowd that is terminal in rest
+module _ (rest net : NetModel) (start : CrowdModel) (spec : RunSpec) (rounds : List (List Meeting)) (end : CrowdModel) where
+  pub is_watched_until : (kind : RunKind) → IsRunOfUntil kind rest net start spec rounds end → IsWatchedRunUntil rest net start spec rounds end
+  is_watched_until Whole run = whole_is_watched net start spec rounds end run
+  is_watched_until Watched run = run
 
   -- a watched run of whole rounds is a run by whole rounds
-  is_whole : (agents : ℕ) → AreRounds spec agents rounds → 1 ≤ spec.workers → IsWatchedRun net start spec rounds end → IsRun net start spec rounds end
+  is_whole : (agents : ℕ) → AreRounds spec agents rounds → 1 ≤ spec.workers → IsWatchedRunUntil rest net start spec rounds end → IsRunUntil rest net start spec rounds end
   is_whole agents form some run =
       record {
         each_round = form.whole;
@@ -65,7 +66,7 @@ module _ (net : NetModel) (start : CrowdModel) (spec : RunSpec) (rounds : List (
         over = over_by_rounds spec rounds run.each_round some run.over;
       }
 
-  pub is_of_kind : (kind : RunKind) (agents : ℕ) → AreRoundsOf kind spec agents rounds → 1 ≤ spec.workers → IsWatchedRun net start spec rounds end → IsRunOf kind net start spec rounds end
+  pub is_of_kind : (kind : RunKind) (agents : ℕ) → AreRoundsOf kind spec agents rounds → 1 ≤ spec.workers → IsWatchedRunUntil rest net start spec rounds end → IsRunOfUntil kind rest net start spec rounds end
   is_of_kind Whole agents form some run = is_whole agents form some run
   is_of_kind Watched agents form some run = run
 
@@ -81,10 +82,18 @@ module _ (net : NetModel) (start : CrowdModel) (spec : RunSpec) (rounds : List (
         let meets = picked_meet (stream_after (words_from (first_state spec.seed m.worker)) (length (meetings_of m.worker before))) (length start) (next ∷ []) two refl in
         All-cons InRange m ms (subst InRange (sym h.0) (All-head InRange next [] meets)) (due_meets (before ++ m ∷ []) ms h.1)
 
-    run_meets : IsWatchedRun net start spec rounds end → AreMeetings (length start) (joined rounds)
+    run_meets : IsWatchedRunUntil rest net start spec rounds end → AreMeetings (length start) (joined rounds)
     run_meets run = due_meets [] (joined rounds) (picked_due net start spec [] (joined rounds) run.picked (all_below spec rounds run.each_round) run.marked)
 
     -- the rounds of a run are well-formed
-    pub run_form : (kind : RunKind) → IsRunOf kind net start spec rounds end → AreRoundsOf kind spec (length start) rounds
-    run_form Whole run = record { whole = run.each_round; meetings = run_meets (whole_is_watched net start spec rounds end run) }
-    run_form Watched run = record { each = run.each_round; whole = run.whole; meetings = run_meets run }
+    pub run_form_until : (kind : RunKind) → IsRunOfUntil kind rest net start spec rounds end → AreRoundsOf kind spec (length start) rounds
+    run_form_until Whole run = record { whole = run.each_round; meetings = run_meets (whole_is_watched net start spec rounds end run) }
+    run_form_until Watched run = record { each = run.each_round; whole = run.whole; meetings = run_meets run }
+
+-- up to a terminal crowd
+module _ (net : NetModel) (start : CrowdModel) (spec : RunSpec) (rounds : List (List Meeting)) (end : CrowdModel) where
+  pub is_watched : (kind : RunKind) → IsRunOf kind net start spec rounds end → IsWatchedRun net start spec rounds end
+  is_watched kind run = is_watched_until net net start spec rounds end kind run
+
+  pub run_form : 2 ≤ length start → (kind : RunKind) → IsRunOf kind net start spec rounds end → AreRoundsOf kind spec (length start) rounds
+  run_form two kind run = run_form_until net net start spec rounds end two kind run

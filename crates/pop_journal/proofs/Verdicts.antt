@@ -12,35 +12,46 @@ use Rattle.pop_crowd.specs.Replay.{replay}
 use Rattle.pop_crowd.proofs.Words.{crowd_tuples}
 use Rattle.pop_words.specs.Options.{IsWithinLimits}
 use Rattle.pair_workers.specs.Run.{joined}
-use Rattle.pair_workers.specs.WatchedRun.{IsWatchedRun}
+use Rattle.pair_workers.specs.WatchedRun.{IsWatchedRunUntil}
+use Rattle.pair_workers.specs.SameLanes.{HaveSameLanes}
 use Rattle.pop_io.specs.declared.failure.Failure.{Failure}
 use Rattle.pop_io.specs.declared.failure.Failure.TheVariants.{Fault, NoMemory}
 use Rattle.pop_journal.specs.declared.fault.VerifyFault.{VerifyFault}
 use Rattle.pop_journal.specs.declared.fault.VerifyFault.TheVariants.{Differs}
 use Rattle.pop_journal.specs.declared.journal.Journal.{Journal}
 use Rattle.pop_journal.specs.Rounds.{AreRoundsOf}
-use Rattle.pop_journal.specs.Expected.{Difference, first_difference, journal_compared, whole_tail, Holds}
+use Rattle.pop_journal.specs.declared.last.Outcome.{Outcome}
+use Rattle.pop_journal.specs.declared.last.Outcome.TheVariants.{Agreed}
+use Rattle.pop_journal.specs.Expected.{Difference, first_difference, journal_compared, journal_compared_until, whole_tail_until, Holds, HoldsUntil}
 use Rattle.pop_journal.specs.Standing.{Passes}
 use Rattle.pop_journal.proofs.Holds.{run_of_none, none_of_run}
-use Rattle.pop_journal.proofs.RunKinds.{are_watched, is_watched, is_of_kind}
+use Rattle.pop_journal.proofs.RunKinds.{are_watched, is_watched_until, is_of_kind}
 
-module _ (net : NetModel) (start : CrowdModel) (journal : Journal) (two : AGENT_LEAST ≤ length start) (few : length start ≤ AGENT_LIMIT) (workers : (1 ≤ journal.spec.workers) × (journal.spec.workers ≤ WORKER_LIMIT)) (tuples : All (IsTuple net) start) (form : AreRoundsOf journal.kind journal.spec (length start) journal.rounds) where
+module _ (rest : NetModel) (outcome : Outcome) (net : NetModel) (lanes : HaveSameLanes rest net) (start : CrowdModel) (journal : Journal) (two : AGENT_LEAST ≤ length start) (few : length start ≤ AGENT_LIMIT) (workers : (1 ≤ journal.spec.workers) × (journal.spec.workers ≤ WORKER_LIMIT)) (tuples : All (IsTuple net) start) (form : AreRoundsOf journal.kind journal.spec (length start) journal.rounds) where
   -- a well-formed journal without a difference holds
-  pub none_held : first_difference (journal.first + 1) (journal_compared net start journal) ≡ None → Holds net start journal
-  none_held e =
+  pub none_held_until : first_difference (journal.first + 1) (journal_compared_until rest outcome net start journal) ≡ None → HoldsUntil rest outcome net start journal
+  none_held_until e =
       let watched = are_watched journal.spec (length start) journal.rounds journal.kind form in
       let end : CrowdModel = replay net (joined journal.rounds) start in
-      let both = run_of_none net start journal.spec two few workers.1 tuples journal.rounds watched (journal.first + 1) journal.tail e in
-      (end, is_of_kind net start journal.spec journal.rounds end journal.kind (length start) form workers.0 both.0, both.1)
+      let both = run_of_none rest net start journal.spec two few workers.1 lanes tuples journal.rounds watched outcome (journal.first + 1) journal.tail e in
+      (end, is_of_kind rest net start journal.spec journal.rounds end journal.kind (length start) form workers.0 both.0, both.1)
+
+  pub held_none_until : HoldsUntil rest outcome net start journal → first_difference (journal.first + 1) (journal_compared_until rest outcome net start journal) ≡ None
+  held_none_until holds =
+      let watched = are_watched journal.spec (length start) journal.rounds journal.kind form in
+      let run : IsWatchedRunUntil rest net start journal.spec journal.rounds holds.0 = is_watched_until rest net start journal.spec journal.rounds holds.0 journal.kind holds.1 in
+      none_of_run rest net start journal.spec two few workers.1 lanes tuples journal.rounds watched outcome (journal.first + 1) journal.tail holds.0 workers.0 run
+      (holds.2 ∙ ap (λ (c : CrowdModel). lines_of (whole_tail_until rest outcome net c)) (sym run.replays))
+
+-- the same for runs up to a terminal crowd
+module _ (net : NetModel) (start : CrowdModel) (journal : Journal) (two : AGENT_LEAST ≤ length start) (few : length start ≤ AGENT_LIMIT) (workers : (1 ≤ journal.spec.workers) × (journal.spec.workers ≤ WORKER_LIMIT)) (tuples : All (IsTuple net) start) (form : AreRoundsOf journal.kind journal.spec (length start) journal.rounds) where
+  pub none_held : first_difference (journal.first + 1) (journal_compared net start journal) ≡ None → Holds net start journal
+  none_held e = none_held_until net Agreed net refl start journal two few workers tuples form e
 
   pub held_none : Holds net start journal → first_difference (journal.first + 1) (journal_compared net start journal) ≡ None
-  held_none holds =
-      let watched = are_watched journal.spec (length start) journal.rounds journal.kind form in
-      let run : IsWatchedRun net start journal.spec journal.rounds holds.0 = is_watched net start journal.spec journal.rounds holds.0 journal.kind holds.1 in
-      none_of_run net start journal.spec two few workers.1 tuples journal.rounds watched (journal.first + 1) journal.tail holds.0 workers.0 run
-      (holds.2 ∙ ap (λ (c : CrowdModel). lines_of (whole_tail net c)) (sym run.replays))
+  held_none holds = held_none_until net Agreed net refl start journal two few workers tuples form holds
 
-module _ (net : NetModel) (words : List Word) (journal : Journal) (r : Result ℕ (Failure VerifyFault)) (limits : IsWithinLimits journal.spec) (form : AreRoundsOf journal.kind journal.spec (length words) journal.rounds) (two : AGENT_LEAST ≤ length words) (few : length words ≤ AGENT_LIMIT) where
+module _ (rest : NetModel) (outcome : Outcome) (net : NetModel) (lanes : HaveSameLanes rest net) (words : List Word) (journal : Journal) (r : Result ℕ (Failure VerifyFault)) (limits : IsWithinLimits journal.spec) (form : AreRoundsOf journal.kind journal.spec (length words) journal.rounds) (two : AGENT_LEAST ≤ length words) (few : length words ≤ AGENT_LIMIT) where
   abbrev start : CrowdModel
   start = crowd_of net words
 
@@ -56,23 +67,23 @@ module _ (net : NetModel) (words : List Word) (journal : Journal) (r : Result �
   fewer : length start ≤ AGENT_LIMIT
   fewer = omega (arith, same, few)
 
-  pub holds_where : Passes (journal.first + 1) (journal_compared net start journal) r → IfOk r (λ _. Holds net start journal)
+  pub holds_where : Passes (journal.first + 1) (journal_compared_until rest outcome net start journal) r → IfOk r (λ _. HoldsUntil rest outcome net start journal)
   holds_where h = by_result r h
     where
-      by_result : (s : Result ℕ (Failure VerifyFault)) → Passes (journal.first + 1) (journal_compared net start journal) s → IfOk s (λ _. Holds net start journal)
+      by_result : (s : Result ℕ (Failure VerifyFault)) → Passes (journal.first + 1) (journal_compared_until rest outcome net start journal) s → IfOk s (λ _. HoldsUntil rest outcome net start journal)
       by_result (Ok n) e =
-          none_held net start journal more fewer limits.workers (crowd_tuples net words) rounds_form e
+          none_held_until rest outcome net lanes start journal more fewer limits.workers (crowd_tuples net words) rounds_form e
       by_result (Err (Fault (Differs line kept found))) e = tt
       by_result (Err NoMemory) e = tt
 
-  pub fails_where : Passes (journal.first + 1) (journal_compared net start journal) r → Holds net start journal → IfErr r (λ fault. fault ≡ NoMemory)
+  pub fails_where : Passes (journal.first + 1) (journal_compared_until rest outcome net start journal) r → HoldsUntil rest outcome net start journal → IfErr r (λ fault. fault ≡ NoMemory)
   fails_where h holds = by_result r h
     where
-      none : first_difference (journal.first + 1) (journal_compared net start journal) ≡ None
+      none : first_difference (journal.first + 1) (journal_compared_until rest outcome net start journal) ≡ None
       none =
-          held_none net start journal more fewer limits.workers (crowd_tuples net words) rounds_form holds
+          held_none_until rest outcome net lanes start journal more fewer limits.workers (crowd_tuples net words) rounds_form holds
 
-      by_result : (s : Result ℕ (Failure VerifyFault)) → Passes (journal.first + 1) (journal_compared net start journal) s → IfErr s (λ fault. fault ≡ NoMemory)
+      by_result : (s : Result ℕ (Failure VerifyFault)) → Passes (journal.first + 1) (journal_compared_until rest outcome net start journal) s → IfErr s (λ fault. fault ≡ NoMemory)
       by_result (Ok n) e = tt
       by_result (Err (Fault (Differs line kept found))) e = let both : None ≡ Some (let d : Difference = record { line = line; kept = kept; found = found } in d) = sym none ∙ e in absurd cc
       by_result (Err NoMemory) e = refl

@@ -16,20 +16,22 @@ use Rattle.pop_words.specs.declared.kind.RunKind.{RunKind}
 use Rattle.pop_words.specs.Kinds.{most_workers_of}
 use Rattle.pop_words.specs.Options.{IsWithinLimits}
 use Rattle.pair_workers.specs.Run.{joined}
-use Rattle.pair_workers.specs.WatchedRun.{IsWatchedRound, IsWatchedRun, IsRunOf}
+use Rattle.pair_workers.specs.WatchedRun.{IsWatchedRound, IsWatchedRunUntil, IsRunOf, IsRunOfUntil}
 use Rattle.pop_journal.specs.declared.journal.Journal.{Journal}
 use Rattle.pop_journal.specs.Journal.{run_line, round_lines, run_lines, last_line, text_of, journal_text}
 use Rattle.pop_journal.specs.Rounds.{AreRounds, AreWatchedRounds, AreRoundsOf}
-use Rattle.pop_journal.specs.Ending.{ending_of}
-use Rattle.pop_journal.specs.Expected.{whole_tail}
+use Rattle.pop_journal.specs.Ending.{ending_of, ending_until}
+use Rattle.pop_journal.specs.declared.last.Outcome.{Outcome}
+use Rattle.pop_journal.specs.declared.last.Outcome.TheVariants.{Agreed}
+use Rattle.pop_journal.specs.Expected.{whole_tail, whole_tail_until}
 use Rattle.pop_journal.specs.Form.{spec_in, Reading, Parts, Out, lines_read, under, with_spec, journal_in}
 use Rattle.pop_io.specs.declared.failure.Failure.{Failure}
 use Rattle.pop_journal.specs.declared.fault.JournalFault.{JournalFault}
 use Rattle.pop_journal.specs.ReadLines.{ReadsJournal}
-use Rattle.pop_journal.specs.Laws.{IsOneSpelling, IsRunReadBack, IsWrittenHeld}
+use Rattle.pop_journal.specs.Laws.{IsOneSpelling, IsOneSpellingUntil, IsRunReadBackUntil, IsWrittenHeld, IsWrittenHeldUntil}
 use Rattle.pop_journal.proofs.Spelled.{IsSmall}
 use Rattle.pop_journal.proofs.Counts.{round_bound}
-use Rattle.pop_journal.proofs.RunKinds.{all_below, are_watched, is_watched, run_form}
+use Rattle.pop_journal.proofs.RunKinds.{all_below, are_watched, is_watched_until, run_form_until}
 use Rattle.pop_journal.proofs.FormLaws.{read_spelled}
 use Rattle.pop_journal.proofs.ReadBack.{rounds_read}
 use Rattle.pop_journal.proofs.RunLine.{spec_spelled, spec_back}
@@ -82,12 +84,15 @@ pub spelling_of : (kind : RunKind) (agents first : ℕ) (lines : List (List ℕ)
 spelling_of kind agents first lines (Ok journal) few e = (journal_form kind agents first lines journal.spec (journal.rounds, journal.tail) few e).0
 spelling_of kind agents first lines (Err fault) few e = tt
 
-pub text_is_held : IsOneSpelling
-text_is_held net start agents first body journal few read holds =
+pub text_is_held_until : IsOneSpellingUntil
+text_is_held_until rest outcome net start agents first body journal few read holds =
     let form = journal_form journal.kind agents first (lines_of (body ++ 10 ∷ [])) journal.spec (journal.rounds, journal.tail) few read in
-    let run : IsWatchedRun net start journal.spec journal.rounds holds.0 = is_watched net start journal.spec journal.rounds holds.0 journal.kind holds.1 in
-    one_spelling journal.kind net journal.spec journal.rounds holds.0 body journal.tail form.0 holds.2
-    ∙ ap (λ (end : CrowdModel). journal_text journal.kind net journal.spec journal.rounds end (ending_of net end)) (sym run.replays)
+    let run : IsWatchedRunUntil rest net start journal.spec journal.rounds holds.0 = is_watched_until rest net start journal.spec journal.rounds holds.0 journal.kind holds.1 in
+    one_spelling rest outcome journal.kind net journal.spec journal.rounds holds.0 body journal.tail form.0 holds.2
+    ∙ ap (λ (end : CrowdModel). journal_text journal.kind net journal.spec journal.rounds end (ending_until rest outcome net end)) (sym run.replays)
+
+pub text_is_held : IsOneSpelling
+text_is_held net = text_is_held_until net Agreed net
 
 -- in the other direction: meetings within the limits have small numbers
 small_all : (agents workers : ℕ) (ms : List Meeting) → agents ≤ AGENT_LIMIT → workers ≤ WORKER_LIMIT → All (IsMeeting agents) ms → All (λ (m : Meeting). m.worker < workers) ms → All IsSmall ms
@@ -116,12 +121,12 @@ few_meetings kind spec agents rounds limits form =
     let long = long_rounds spec 0 rounds limits.workers.1 (λ i r h. subst (λ (n : ℕ). IsWatchedRound spec n r) (let e : i + 1 ≡ 0 + i + 1 = omega arith in e) (watched.each i r h)) in
     omega (arith, bound, long)
 
-module _ (kind : RunKind) (net : NetModel) (start : CrowdModel) (spec : RunSpec) (rounds : List (List Meeting)) (end : CrowdModel) (two : 2 ≤ length start) (few : length start ≤ AGENT_LIMIT) (limits : IsWithinLimits spec) (run : IsRunOf kind net start spec rounds end) where
+module _ (rest : NetModel) (outcome : Outcome) (kind : RunKind) (net : NetModel) (start : CrowdModel) (spec : RunSpec) (rounds : List (List Meeting)) (end : CrowdModel) (two : 2 ≤ length start) (few : length start ≤ AGENT_LIMIT) (limits : IsWithinLimits spec) (run : IsRunOfUntil kind rest net start spec rounds end) where
   abbrev tail : List (List ℕ)
-  tail = lines_of (whole_tail net end)
+  tail = lines_of (whole_tail_until rest outcome net end)
 
   form : AreRoundsOf kind spec (length start) rounds
-  form = run_form net start spec rounds end two kind run
+  form = run_form_until rest net start spec rounds end two kind run
 
   watched : AreWatchedRounds spec (length start) rounds
   watched = are_watched spec (length start) rounds kind form
@@ -133,18 +138,26 @@ module _ (kind : RunKind) (net : NetModel) (start : CrowdModel) (spec : RunSpec)
   not_many =
       let bound = few_rounds rounds 245 (λ k r h. early spec k r limits.turns.1 (watched.each k r h)) in omega (arith, bound)
 
-  pub cut : lines_of (journal_text kind net spec rounds end (ending_of net end)) ≡ run_line kind spec ∷ (round_lines 1 rounds ++ codes "end" ∷ tail)
-  cut =
-      ap lines_of (append_assoc (text_of (run_lines kind spec rounds)) (crowd_lines net end) (ended (last_line (ending_of net end))))
-      ∙ lines_text (run_lines kind spec rounds) (whole_tail net end) (lines_unbroken kind spec rounds limits not_many all_small)
+  pub cut_until : lines_of (journal_text kind net spec rounds end (ending_until rest outcome net end)) ≡ run_line kind spec ∷ (round_lines 1 rounds ++ codes "end" ∷ tail)
+  cut_until =
+      ap lines_of (append_assoc (text_of (run_lines kind spec rounds)) (crowd_lines net end) (ended (last_line (ending_until rest outcome net end))))
+      ∙ lines_text (run_lines kind spec rounds) (whole_tail_until rest outcome net end) (lines_unbroken kind spec rounds limits not_many all_small)
       ∙ append_assoc (run_line kind spec ∷ round_lines 1 rounds) (codes "end" ∷ []) tail
 
-  pub read_back : (first : ℕ) → spec.workers ≤ most_workers_of kind → spec.workers * spec.turns ≤ MEETING_LIMIT → IsRunReadBack kind net start spec rounds end first
+  read_back : (first : ℕ) → spec.workers ≤ most_workers_of kind → spec.workers * spec.turns ≤ MEETING_LIMIT → IsRunReadBackUntil rest outcome kind net start spec rounds end first
   read_back first hands spent =
-      ap (journal_in kind (length start) first) cut
+      ap (journal_in kind (length start) first) cut_until
       ∙ ap (with_spec kind (length start) first (round_lines 1 rounds ++ codes "end" ∷ tail)) (spec_back kind spec limits hands spent)
       ∙ ap (under spec) (rounds_read spec (length start) limits.workers.0 limits.workers.1 (omega (arith, few)) kind (first + 1) [] rounds tail form)
 
+pub written_is_held_until : IsWrittenHeldUntil
+written_is_held_until rest outcome kind net start spec rounds end first two few limits hands spent run =
+    (read_back rest outcome kind net start spec rounds end two few limits run first hands spent, (end, run, refl))
+
 pub written_is_held : IsWrittenHeld
-written_is_held kind net start spec rounds end first two few limits hands spent run =
-    (read_back kind net start spec rounds end two few limits run first hands spent, (end, run, refl))
+written_is_held kind net = written_is_held_until net Agreed kind net
+
+-- the lines of the text of a run up to a terminal crowd
+pub cut : (kind : RunKind) (net : NetModel) (start : CrowdModel) (spec : RunSpec) (rounds : List (List Meeting)) (end : CrowdModel) → 2 ≤ length start → length start ≤ AGENT_LIMIT → IsWithinLimits spec → IsRunOf kind net start spec rounds end
+    → lines_of (journal_text kind net spec rounds end (ending_of net end)) ≡ run_line kind spec ∷ (round_lines 1 rounds ++ codes "end" ∷ lines_of (whole_tail net end))
+cut kind net start spec rounds end two few limits run = cut_until net Agreed kind net start spec rounds end two few limits run

@@ -16,7 +16,9 @@ use Rattle.pop_journal.specs.declared.journal.TheConstants.{LINE_LIMIT}
 use Rattle.pop_journal.specs.Journal.{run_line, round_lines}
 use Rattle.pop_journal.specs.Rounds.{AreRoundsOf}
 use Rattle.pop_journal.specs.ReadLines.{ReadsJournal}
-use Rattle.pop_journal.specs.Expected.{journal_compared, Holds}
+use Rattle.pop_journal.specs.declared.last.Outcome.{Outcome}
+use Rattle.pop_journal.specs.declared.last.Outcome.TheVariants.{Agreed}
+use Rattle.pop_journal.specs.Expected.{journal_compared_until, HoldsUntil}
 use Rattle.pop_journal.specs.Standing.{Passes}
 
 -- What was read of these lines as the journal of a run of this kind for so many agents. The first line has this number.
@@ -39,12 +41,16 @@ pub record CanVerify (net : NetModel) (crowd : List Word) (journal : Journal) : 
   pub spec : IsWithinLimits journal.spec
   pub rounds : AreRoundsOf journal.kind journal.spec (length crowd) journal.rounds
 
--- the journal was compared with the run that it records from this crowd
-pub record IsVerified (net : NetModel) (crowd : List Word) (journal : Journal)
-    (result : Result ℕ (Failure VerifyFault)) : Type 0 where
+-- the journal was compared with the run that it records from this crowd, until it is terminal in rest
+pub record IsVerifiedUntil (rest : NetModel) (outcome : Outcome) (net : NetModel) (crowd : List Word)
+    (journal : Journal) (result : Result ℕ (Failure VerifyFault)) : Type 0 where
   -- the first line that isn't the expected one is the refusal
-  pub passes : Passes (journal.first + 1) (journal_compared net (crowd_of net crowd) journal) result
+  pub passes : Passes (journal.first + 1) (journal_compared_until rest outcome net (crowd_of net crowd) journal) result
   pub meetings : IfOk result (λ k. k ≡ length (joined journal.rounds))
   -- it passes exactly when the rounds are a run of the journal's kind and the tail has the lines of its end
-  pub holds : IfOk result (λ _. Holds net (crowd_of net crowd) journal)
-  pub accepts : Holds net (crowd_of net crowd) journal → OnlyMemory result
+  pub holds : IfOk result (λ _. HoldsUntil rest outcome net (crowd_of net crowd) journal)
+  pub accepts : HoldsUntil rest outcome net (crowd_of net crowd) journal → OnlyMemory result
+
+-- the same for a run up to a terminal crowd
+abbrev pub IsVerified : NetModel → List Word → Journal → Result ℕ (Failure VerifyFault) → Type 0
+IsVerified net crowd journal result = IsVerifiedUntil net Agreed net crowd journal result

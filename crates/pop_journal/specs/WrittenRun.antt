@@ -6,12 +6,16 @@ use Rattle.pop_crowd.specs.declared.crowd.Meeting.{Meeting}
 use Rattle.pop_words.specs.declared.kind.RunKind.TheVariants.{Whole}
 use Rattle.pop_words.specs.declared.spec.RunSpec.{RunSpec}
 use Rattle.pair_workers.specs.declared.alone.End.{End}
-use Rattle.pair_workers.specs.OneRun.{IsOnlyRunFrom}
+use Rattle.pair_workers.specs.OneRun.{IsOnlyRunFromUntil}
 use Rattle.pop_journal.specs.Journal.{run_lines, text_of}
 
--- a run from a crowd to this end, which is the only one, and its lines after earlier text
-pub record IsWrittenRun (net : NetModel) (crowd : List Word) (spec : RunSpec) (before after : List ℕ)
+-- a run from a crowd to this end until it is terminal in rest, which is the only one, and its lines after earlier text
+pub record IsWrittenRunUntil (rest net : NetModel) (crowd : List Word) (spec : RunSpec) (before after : List ℕ)
     (last : List Word) (end : End) : Type 0 where
   pub rounds : List (List Meeting)
-  pub run : IsOnlyRunFrom net crowd spec (record { rounds = rounds; crowd = last; end = end })
+  pub run : IsOnlyRunFromUntil rest net crowd spec (record { rounds = rounds; crowd = last; end = end })
   pub text : after ≡ before ++ text_of (run_lines Whole spec rounds)
+
+-- such a run up to a terminal crowd
+abbrev pub IsWrittenRun : NetModel → List Word → RunSpec → List ℕ → List ℕ → List Word → End → Type 0
+IsWrittenRun net crowd spec before after last end = IsWrittenRunUntil net net crowd spec before after last end

@@ -5,10 +5,11 @@ ghost use Rattle.pop_net.specs.NetModel.{CrowdModel};
 ghost use Rattle.pop_net.specs.Lanes.{crowd_of, AreValid};
 ghost use Rattle.pop_crowd.specs.Replay.{AreMeetings};
 ghost use Rattle.pair_workers.specs.CrowdSize.{IsCrowdSize};
+ghost use Rattle.pair_workers.specs.SameLanes.{HaveSameLanes};
 ghost use Rattle.pop_lines.specs.Lines.{lines_of, ended};
 ghost use Rattle.pop_crowd.specs.Tally.{crowd_lines};
 ghost use Rattle.pop_journal.specs.Journal.{meeting_line, round_line, last_line};
-ghost use Rattle.pop_journal.specs.Ending.{is_terminal, ending_of, ending_for, last_is_undecided};
+ghost use Rattle.pop_journal.specs.Ending.{is_terminal, ending_until, ending_with, last_is_undecided};
 ghost use Rattle.pop_journal.specs.Expected.{next_meeting, meetings_compared, tail_compared};
 ghost use Rattle.pop_journal.specs.Standing.{IsReplaying, Passes};
 ghost use Rattle.pop_io.specs.declared.failure.Failure.TheVariants.{Fault};
@@ -16,7 +17,7 @@ ghost use Rattle.pop_journal.specs.declared.fault.VerifyFault.TheVariants.{Diffe
 ghost use Rattle.terminal_test.specs.TableNet.{table_net};
 
 use crate::fault::VerifyFault;
-use crate::last::Last;
+use crate::last::{Last, Outcome};
 use crate::limits::ROUND_LIMIT;
 use crate::write::{push_last_line, push_meeting_numbers};
 use pair_workers::{Picker, ROUND_TURNS, meet_next};
@@ -70,19 +71,21 @@ fn differs(
 
 impl Replayer {
     ghost use Rattle.std.specs.Prelude.{◌≡◌, ◌∷◌, [], ◌++◌, ◌+◌, ◌<◌, ◌≤◌, ◌^◌, length, List, All, IfOk, IfSome};
-    ghost use Rattle.pop_net.specs.NetModel.{CrowdModel};
+    ghost use Rattle.pop_net.specs.NetModel.{NetModel, CrowdModel};
     ghost use Rattle.pop_net.specs.Lanes.{AreValid};
     ghost use Rattle.pop_crowd.specs.Replay.{AreMeetings};
     ghost use Rattle.pop_crowd.specs.declared.crowd.Meeting.{Meeting};
     ghost use Rattle.pop_words.specs.declared.spec.RunSpec.{RunSpec};
-    ghost use Rattle.pop_journal.specs.Ending.{ending_of};
+    ghost use Rattle.pop_journal.specs.Ending.{ending_until};
+    ghost use Rattle.pop_journal.specs.declared.last.Outcome.{Outcome};
+    ghost use Rattle.pair_workers.specs.SameLanes.{HaveSameLanes};
     ghost use Rattle.pair_workers.specs.Run.{turns_in};
     ghost use Rattle.pop_journal.specs.Journal.{round_line};
     ghost use Rattle.std.specs.Prelude.{codes};
     ghost use Rattle.pop_lines.specs.Lines.{lines_of};
     ghost use Rattle.pop_crowd.specs.Replay.{replay};
     ghost use Rattle.pop_journal.specs.Expected.{next_meeting, meetings_compared, tail_compared, both, line_between};
-    ghost use Rattle.pop_journal.specs.Expected.{line_at_end, whole_tail};
+    ghost use Rattle.pop_journal.specs.Expected.{line_at_end, whole_tail_until};
     ghost use Rattle.pop_journal.specs.Standing.{IsReplaying, IsForEnd, KeepsShape, Passes};
     ghost use Rattle.terminal_test.specs.TableNet.{table_net};
 
@@ -138,7 +141,7 @@ impl Replayer {
         meetings: &[Meeting],
         line: u64,
     ) -> Result<(), Failure<VerifyFault>>
-        requires table { table_net table.now ≡ net.now }
+        requires lanes { HaveSameLanes (table_net table.now) net.now }
         requires valid { AreValid net.now self.old.crowd }
         requires meetings { AreMeetings (length self.old.crowd) meetings.now }
         requires workers { All (λ m. m.worker < length self.old.pickers.items) meetings.now }
@@ -147,7 +150,7 @@ impl Replayer {
         ensures passes { (start : CrowdModel) (spec : RunSpec) (before : List Meeting)
             → IsReplaying net.now start spec before self.old → 1 ≤ turns_in spec round
             → Passes line
-            (both (round_line round) (line_between net.now start spec before round)
+            (both (round_line round) (line_between (table_net table.now) net.now start spec before round)
             ∷ meetings_compared net.now start spec before meetings.now) result
             × IfOk result (λ _. IsReplaying net.now start spec (before ++ meetings.now) self.new) }
         ensures shape { KeepsShape net.now self.old self.new }
@@ -173,9 +176,10 @@ impl Replayer {
         requires round { (1 ≤ round) × (round ≤ ROUND_LIMIT + 1) }
         requires worker { IfSome lacking (λ worker. worker < length self.old.pickers.items) }
         ensures { IfOk result
-            (λ found. (start : CrowdModel) (before : List Meeting) → IsReplaying net.now start spec.now before self.old
-            → last ≡ ending_of net.now (replay net.now before start)
-            → IsForEnd (line_at_end net.now start spec.now before round lacking) found) }
+            (λ found. (rest : NetModel) (outcome : Outcome) (start : CrowdModel) (before : List Meeting)
+            → IsReplaying net.now start spec.now before self.old
+            → last ≡ ending_until rest outcome net.now (replay net.now before start)
+            → IsForEnd (line_at_end rest net.now start spec.now before round lacking) found) }
     {
         if !is_undecided(last) {
             return Ok(None);
@@ -196,23 +200,25 @@ impl Replayer {
         alloc: Global,
         net: &Net,
         table: &PairTable,
+        outcome: Outcome,
         spec: &RunSpec,
         round: u64,
         lacking: Option<u16>,
         tail: &[List<u8>],
         line: u64,
     ) -> Result<(), Failure<VerifyFault>>
-        requires table { table_net table.now ≡ net.now }
+        requires lanes { HaveSameLanes (table_net table.now) net.now }
         requires valid { AreValid net.now self.old.crowd }
         requires round { (1 ≤ round) × (round ≤ ROUND_LIMIT + 1) }
         requires worker { IfSome lacking (λ worker. worker < length self.old.pickers.items) }
         requires line { line + 1 + length tail.now < 2 ^ 64 }
         ensures { (start : CrowdModel) (before : List Meeting) → IsReplaying net.now start spec.now before self.old
             → Passes line
-            (both (codes "end") (line_at_end net.now start spec.now before round lacking)
-            ∷ tail_compared tail.now (lines_of (whole_tail net.now (replay net.now before start)))) result }
+            (both (codes "end") (line_at_end (table_net table.now) net.now start spec.now before round lacking)
+            ∷ tail_compared tail.now
+            (lines_of (whole_tail_until (table_net table.now) outcome net.now (replay net.now before start)))) result }
     {
-        let last = ending(alloc, net, table, &self.crowd)?;
+        let last = ending(alloc, net, table, outcome, &self.crowd)?;
         let wanted = tail_text(alloc, net, &self.crowd, last)?;
         if let Some(found) = self.line_for_end(alloc, net, spec, round, lacking, last)? {
             return Err(Failure::Fault(VerifyFault::Differs {
@@ -230,7 +236,7 @@ fn is_undecided(last: Last) -> bool
 {
     match last {
         Last::Undecided(_, _) => true,
-        Last::Verdict(_) | Last::Terminal => false,
+        Last::Verdict(_) | Last::Terminal | Last::Settled(_) => false,
     }
 }
 
@@ -260,23 +266,31 @@ fn is_quiet(
 }
 
 /// The last line for a crowd.
-fn ending(alloc: Global, net: &Net, table: &PairTable, crowd: &Crowd) -> Result<Last, NoMemory>
-    requires table { table_net table.now ≡ net.now }
+fn ending(
+    alloc: Global,
+    net: &Net,
+    table: &PairTable,
+    outcome: Outcome,
+    crowd: &Crowd,
+) -> Result<Last, NoMemory>
+    requires lanes { HaveSameLanes (table_net table.now) net.now }
     requires valid { AreValid net.now crowd.now }
-    ensures { IfOk result (λ last. last ≡ ending_of net.now (crowd_of net.now crowd.now)) }
+    ensures { IfOk result
+        (λ last. last ≡ ending_until (table_net table.now) outcome net.now (crowd_of net.now crowd.now)) }
 {
     let found = table.enabled_pair(alloc, crowd)?;
     let _ = crowd.len();
-    Ok(last_for(found, agreed(net, crowd)))
+    Ok(last_for(outcome, found, agreed(net, crowd)))
 }
 
-fn last_for(found: Option<(u32, u32)>, output: Option<bool>) -> Last
-    ensures { result ≡ ending_for found output }
+fn last_for(outcome: Outcome, found: Option<(u32, u32)>, output: Option<bool>) -> Last
+    ensures { result ≡ ending_with outcome found output }
 {
-    match (found, output) {
-        (Some((a, b)), _) => Last::Undecided(a, b),
-        (None, Some(value)) => Last::Verdict(value),
-        (None, None) => Last::Terminal,
+    match (found, outcome, output) {
+        (Some((a, b)), _, _) => Last::Undecided(a, b),
+        (None, Outcome::Known(value), _) => Last::Settled(value),
+        (None, Outcome::Agreed, Some(value)) => Last::Verdict(value),
+        (None, Outcome::Agreed, None) => Last::Terminal,
     }
 }
 

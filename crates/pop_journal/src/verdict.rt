@@ -5,15 +5,18 @@ ghost use Rattle.pop_net.specs.Lanes.{crowd_of, AreValid};
 ghost use Rattle.terminal_test.specs.TableNet.{table_net};
 ghost use Rattle.pop_words.specs.Options.{IsWithinLimits};
 ghost use Rattle.pair_workers.specs.CrowdSize.{IsCrowdSize};
+ghost use Rattle.pair_workers.specs.SameLanes.{HaveSameLanes};
 ghost use Rattle.pair_workers.specs.Run.{joined};
 ghost use Rattle.pop_journal.specs.Rounds.{AreWatchedRounds};
-ghost use Rattle.pop_journal.specs.Calls.{CanVerify, IsVerified};
-ghost use Rattle.pop_journal.specs.Expected.{journal_compared};
+ghost use Rattle.pop_journal.specs.Calls.{CanVerify, IsVerified, IsVerifiedUntil};
+ghost use Rattle.pop_journal.specs.declared.last.Outcome.TheVariants.{Known};
+ghost use Rattle.pop_journal.specs.Expected.{journal_compared_until};
 ghost use Rattle.pop_journal.specs.Standing.{IsReplaying, Passes};
 
 use crate::fault::VerifyFault;
 use crate::journal::{Journal, LINE_LIMIT};
 use crate::lacking::lacking_last;
+use crate::last::Outcome;
 use crate::replayer::Replayer;
 use pair_workers::first_pickers;
 use pop_crowd::Crowd;
@@ -51,10 +54,11 @@ fn compare_lines(
     alloc: Global,
     net: &Net,
     table: &PairTable,
+    outcome: Outcome,
     replayer: &mut Replayer,
     journal: &Journal,
 ) -> Result<u64, Failure<VerifyFault>>
-    requires table { table_net table.now ≡ net.now }
+    requires lanes { HaveSameLanes (table_net table.now) net.now }
     requires valid { AreValid net.now replayer.old.crowd }
     requires agents { IsCrowdSize (length replayer.old.crowd) }
     requires stands { IsReplaying net.now (crowd_of net.now replayer.old.crowd) journal.now.spec [] replayer.old }
@@ -62,7 +66,8 @@ fn compare_lines(
     requires spec { IsWithinLimits journal.now.spec }
     requires rounds { AreWatchedRounds journal.now.spec (length replayer.old.crowd) journal.now.rounds }
     ensures passes { Passes (journal.now.first + 1)
-        (journal_compared net.now (crowd_of net.now replayer.old.crowd) journal.now) result }
+        (journal_compared_until (table_net table.now) outcome net.now (crowd_of net.now replayer.old.crowd)
+        journal.now) result }
     ensures meetings { IfOk result (λ k. k ≡ length (joined journal.now.rounds)) }
 {
     let mut line = journal.first + 1;
@@ -77,29 +82,42 @@ fn compare_lines(
     let round = rounds.len() as u64 + 1;
     let lacking = lacking_last(alloc, &journal.spec, rounds)?;
     let tail = journal.tail.as_slice();
-    replayer.compare_end(alloc, net, table, &journal.spec, round, lacking, tail, line)?;
+    replayer.compare_end(
+        alloc,
+        net,
+        table,
+        outcome,
+        &journal.spec,
+        round,
+        lacking,
+        tail,
+        line,
+    )?;
     Ok(total)
 }
 
-/// Compares all lines of a journal after the first.
+/// Compares all lines of a journal after the first. Its run ends where the crowd is terminal in `rest`.
 fn compare(
     alloc: Global,
     net: &Net,
+    rest: &Net,
+    outcome: Outcome,
     crowd: Crowd,
     journal: &Journal,
 ) -> Result<u64, Failure<VerifyFault>>
+    requires lanes { HaveSameLanes rest.now net.now }
     requires valid { AreValid net.now crowd }
     requires first { journal.now.first ≤ LINE_LIMIT }
     requires spec { IsWithinLimits journal.now.spec }
     requires rounds { AreWatchedRounds journal.now.spec (length crowd) journal.now.rounds }
     ensures passes { Passes (journal.now.first + 1)
-        (journal_compared net.now (crowd_of net.now crowd) journal.now) result }
+        (journal_compared_until rest.now outcome net.now (crowd_of net.now crowd) journal.now) result }
     ensures meetings { IfOk result (λ k. k ≡ length (joined journal.now.rounds)) }
     ensures agents { IsCrowdSize (length crowd) }
 {
-    let table = PairTable::new(alloc, net)?;
+    let table = PairTable::new(alloc, rest)?;
     let mut replayer = first_replayer(alloc, net, crowd, &journal.spec)?;
-    compare_lines(alloc, net, &table, &mut replayer, journal)
+    compare_lines(alloc, net, &table, outcome, &mut replayer, journal)
 }
 
 /// Compares each line of a journal after the first with the one expected after the lines before it.
@@ -113,5 +131,22 @@ pub fn verify(
     requires { CanVerify net.now crowd journal.now }
     ensures { IsVerified net.now crowd journal.now result }
 {
-    compare(alloc, net, crowd, journal)
+    compare(alloc, net, net, Outcome::Agreed, crowd, journal)
+}
+
+/// As `verify`, for a run that is over once no move of `rest` is possible. Its last line is then `settled` with this
+/// value, which the caller knows.
+pub fn verify_settled(
+    alloc: Global,
+    net: &Net,
+    rest: &Net,
+    value: bool,
+    crowd: Crowd,
+    journal: &Journal,
+) -> Result<u64, Failure<VerifyFault>>
+    requires lanes { HaveSameLanes rest.now net.now }
+    requires can { CanVerify net.now crowd journal.now }
+    ensures { IsVerifiedUntil rest.now (Known value) net.now crowd journal.now result }
+{
+    compare(alloc, net, rest, Outcome::Known(value), crowd, journal)
 }

@@ -5,8 +5,9 @@ use Rattle.pop_lines.specs.Lines.{lines_of}
 use Rattle.pop_net.specs.Lanes.{crowd_of}
 use Rattle.pop_crowd.specs.declared.crowd.Meeting.{Meeting}
 use Rattle.pop_crowd.specs.Replay.{replay}
+use Rattle.terminal_test.specs.TableNet.{table_net}
 use Rattle.pair_workers.specs.Run.{joined}
-use Rattle.pop_journal.specs.Expected.{Compared, first_difference, lacking, rounds_compared, tail_compared, whole_tail, journal_compared}
+use Rattle.pop_journal.specs.Expected.{Compared, first_difference, lacking, rounds_compared, tail_compared, whole_tail_until, journal_compared_until}
 use Rattle.pop_journal.specs.Standing.{IsReplaying, lacking_behind}
 use Rattle.pop_journal.proofs.Walk.{round_compared, round_passed, round_differs, carried}
 use Rattle.pop_journal.proofs.RoundAt.{round_is, range_at, below_at, joined_is, drop_is, lacking_next, long_at, early}
@@ -34,6 +35,8 @@ pub returns-in_err-compare_round-clause-passes : goal.returns-in_err-compare_rou
 returns-in_err-compare_round-clause-passes c =
     let journal = c.args.journal.now in
     let less : c.loop-k.k < length journal.rounds = subst (λ (rs : List (List Meeting)). c.loop-k.k < length rs) c.as_slice-meetings-items.ensures c.loop-k-test.true in
+    let rest = table_net c.args.table.now in
+    let outcome = c.args.outcome in
     let net = c.args.net.now in
     let start = crowd_of net c.args.replayer.now.crowd in
     let rounds = journal.rounds in
@@ -42,20 +45,22 @@ returns-in_err-compare_round-clause-passes c =
     let is : r ≡ get_or rounds k r = cc in
     let round = round_is journal.spec (length c.args.replayer.now.crowd) rounds c.requires.rounds k less r is in
     let before = joined (take k rounds) in
-    let rest = drop (k + 1) rounds in
+    let others = drop (k + 1) rounds in
     let worker : Option ℕ = lacking_behind journal.spec rounds k in
-    let t : List Compared = tail_compared journal.tail (lines_of (whole_tail net (replay net (joined rounds) start))) in
+    let t : List Compared = tail_compared journal.tail (lines_of (whole_tail_until rest outcome net (replay net (joined rounds) start))) in
     let p = err_from_is_err_and c.from_residual.result c.from_residual.ensures.1 in
     let found = c.in_err-compare_round.ensures.passes start journal.spec before c.loop-k.invariant.stands round.some_turn in
-    let far = c.loop-k.invariant.passed ∙ ap (λ (rs : List (List Meeting)). first_difference c.loop-k.line (rounds_compared net start journal.spec before (k + 1) worker rs ++ t)) (drop_is journal.spec (length c.args.replayer.now.crowd) rounds c.requires.rounds k less r is) in
+    let far = c.loop-k.invariant.passed ∙ ap (λ (rs : List (List Meeting)). first_difference c.loop-k.line (rounds_compared rest net start journal.spec before (k + 1) worker rs ++ t)) (drop_is journal.spec (length c.args.replayer.now.crowd) rounds c.requires.rounds k less r is) in
     rw (p.1, p.2)
-    (carried (Unit {0}) ℕ (journal.first + 1) c.loop-k.line (journal_compared net start journal) (round_compared net start journal.spec before (k + 1) r) (rounds_compared net start journal.spec before (k + 1) worker (r ∷ rest) ++ t) c.in_err-compare_round.field-0.0
-    (round_differs net start journal.spec before (k + 1) c.loop-k.line worker r rest t) far found.0)
+    (carried (Unit {0}) ℕ (journal.first + 1) c.loop-k.line (journal_compared_until rest outcome net start journal) (round_compared rest net start journal.spec before (k + 1) r) (rounds_compared rest net start journal.spec before (k + 1) worker (r ∷ others) ++ t) c.in_err-compare_round.field-0.0
+    (round_differs rest net start journal.spec before (k + 1) c.loop-k.line worker r others t) far found.0)
 
 pub loop-k-preserved : goal.loop-k-preserved
 loop-k-preserved c =
     let journal = c.args.journal.now in
     let less : c.loop-k.k < length journal.rounds = subst (λ (rs : List (List Meeting)). c.loop-k.k < length rs) c.as_slice-meetings-items.ensures c.loop-k-test.true in
+    let rest = table_net c.args.table.now in
+    let outcome = c.args.outcome in
     let net = c.args.net.now in
     let start = crowd_of net c.args.replayer.now.crowd in
     let rounds = journal.rounds in
@@ -67,9 +72,9 @@ loop-k-preserved c =
     let more = joined_is journal.spec (length c.args.replayer.now.crowd) rounds c.requires.rounds k less r is in
     let long = long_at journal.spec (length c.args.replayer.now.crowd) rounds c.requires.rounds k less r is c.requires.spec.workers.1 in
     let before = joined (take k rounds) in
-    let rest = drop (k + 1) rounds in
+    let others = drop (k + 1) rounds in
     let worker : Option ℕ = lacking_behind journal.spec rounds k in
-    let t : List Compared = tail_compared journal.tail (lines_of (whole_tail net (replay net (joined rounds) start))) in
+    let t : List Compared = tail_compared journal.tail (lines_of (whole_tail_until rest outcome net (replay net (joined rounds) start))) in
     let lacks : lacking journal.spec (k + 1) r ≡ lacking_behind journal.spec rounds (k + 1) = lacking_next journal.spec (length c.args.replayer.now.crowd) rounds c.requires.rounds k less r is in
     let told = c.in_ok-compare_round.ensures.passes start journal.spec before was.stands round.some_turn in
     record {
@@ -82,9 +87,9 @@ loop-k-preserved c =
       rounds = early journal.spec (length c.args.replayer.now.crowd) rounds c.requires.rounds k less r is c.requires.spec.turns.1;
       stands = subst (λ (l : List Meeting). IsReplaying net start journal.spec l c.compare_round.new.self) (sym more) told.1;
       passed = was.passed
-          ∙ ap (λ (rs : List (List Meeting)). first_difference c.loop-k.line (rounds_compared net start journal.spec before (k + 1) worker rs ++ t)) (drop_is journal.spec (length c.args.replayer.now.crowd) rounds c.requires.rounds k less r is)
-          ∙ round_passed net start journal.spec before (k + 1) c.loop-k.line worker r rest t told.0
-          ∙ ap (λ (p : List Meeting × Option ℕ). first_difference (c.loop-k.line + (1 + length r)) (rounds_compared net start journal.spec p.0 (k + 1 + 1) p.1 rest ++ t)) (λ i. (sym more i, lacks i));
+          ∙ ap (λ (rs : List (List Meeting)). first_difference c.loop-k.line (rounds_compared rest net start journal.spec before (k + 1) worker rs ++ t)) (drop_is journal.spec (length c.args.replayer.now.crowd) rounds c.requires.rounds k less r is)
+          ∙ round_passed rest net start journal.spec before (k + 1) c.loop-k.line worker r others t told.0
+          ∙ ap (λ (p : List Meeting × Option ℕ). first_difference (c.loop-k.line + (1 + length r)) (rounds_compared rest net start journal.spec p.0 (k + 1 + 1) p.1 others ++ t)) (λ i. (sym more i, lacks i));
     }
 
 pub compare_end-requires-clause-worker : goal.compare_end-requires-clause-worker
@@ -96,18 +101,22 @@ pub returns-clause-passes : goal.returns-clause-passes
 returns-clause-passes c =
     let journal = c.args.journal.now in
     let was = c.loop-k.invariant in
+    let rest = table_net c.args.table.now in
+    let outcome = c.args.outcome in
     let start = crowd_of c.args.net.now c.args.replayer.now.crowd in
-    end_passes c.args.net.now start journal.spec journal.rounds journal.tail c.loop-k.k c.as_slice-rounds.result.now c.in_ok-lacking.lacking c.as_slice-tail.result.now
+    end_passes rest outcome c.args.net.now start journal.spec journal.rounds journal.tail c.loop-k.k c.as_slice-rounds.result.now c.in_ok-lacking.lacking c.as_slice-tail.result.now
     c.as_slice-rounds.ensures c.in_ok-lacking.ensures c.as_slice-tail.ensures _ c.as_slice-meetings-items.ensures (omega (arith, c.loop-k-test.false, c.loop-k.auto.k-end))
-    (journal.first + 1) c.loop-k.line (journal_compared c.args.net.now start journal) was.passed (c.in_ok-compare_end.ensures start (joined (take c.loop-k.k journal.rounds)) was.stands)
+    (journal.first + 1) c.loop-k.line (journal_compared_until rest outcome c.args.net.now start journal) was.passed (c.in_ok-compare_end.ensures start (joined (take c.loop-k.k journal.rounds)) was.stands)
 
 pub returns-in_err-compare_end-clause-passes : goal.returns-in_err-compare_end-clause-passes
 returns-in_err-compare_end-clause-passes c =
     let journal = c.args.journal.now in
+    let rest = table_net c.args.table.now in
+    let outcome = c.args.outcome in
     let start = crowd_of c.args.net.now c.args.replayer.now.crowd in
     let p = err_from_is_err_and c.from_residual-in_err-compare_end.result c.from_residual-in_err-compare_end.ensures.1 in
     rw (p.1, p.2)
-    (end_differs c.args.net.now start journal.spec journal.rounds journal.tail c.loop-k.k c.as_slice-rounds.result.now c.in_ok-lacking.lacking c.as_slice-tail.result.now
+    (end_differs rest outcome c.args.net.now start journal.spec journal.rounds journal.tail c.loop-k.k c.as_slice-rounds.result.now c.in_ok-lacking.lacking c.as_slice-tail.result.now
     c.as_slice-rounds.ensures c.in_ok-lacking.ensures c.as_slice-tail.ensures _ c.as_slice-meetings-items.ensures (omega (arith, c.loop-k-test.false, c.loop-k.auto.k-end))
-    (journal.first + 1) c.loop-k.line (journal_compared c.args.net.now start journal) c.loop-k.invariant.passed (Unit {0}) ℕ c.in_err-compare_end.field-0.0
+    (journal.first + 1) c.loop-k.line (journal_compared_until rest outcome c.args.net.now start journal) c.loop-k.invariant.passed (Unit {0}) ℕ c.in_err-compare_end.field-0.0
     (c.in_err-compare_end.ensures start (joined (take c.loop-k.k journal.rounds)) c.loop-k.invariant.stands))
