@@ -14,7 +14,7 @@ use Rattle.pair_workers.specs.Turns.{HasPicked, ArePlayed}
 use Rattle.pair_workers.proofs.Rounds.{get_pushed}
 use Rattle.pair_workers.proofs.Turns.{picked_on}
 use Rattle.pair_workers.proofs.ManyRounds.{AreOnTheRun, all_more_rounds, all_run_over, next_turns, as_many, all_of, all_marked, all_replayed, all_go_on}
-use Rattle.pair_workers.specs.WatchedRun.{IsWatchedRound, IsWatchedRun, AreSpent}
+use Rattle.pair_workers.specs.WatchedRun.{IsWatchedRound, IsWatchedRunUntil, AreSpent}
 use Rattle.pair_workers.proofs.WholeWatched.{watched_round, whole_is_watched}
 use Rattle.pair_workers.specs.declared.alone.End.{End}
 use Rattle.pair_workers.specs.declared.alone.End.TheVariants.{Terminal, Open}
@@ -22,12 +22,12 @@ use Rattle.pair_workers.specs.Ends.{IsEndOf}
 use Rattle.pop_watch.specs.Playing.{ArePlaying, AreAllMade}
 use Rattle.pop_watch.specs.WatchedEnds.{WatchedEndsBy}
 
--- the run goes on, or it is over in a terminal crowd
-abbrev pub IsOnTheWay : NetModel → CrowdModel → RunSpec → List (List Meeting) → CrowdModel → List (List ℕ) → ℕ → Type 0
-IsOnTheWay net start spec rounds crowd pickers left =
-    AreOnTheRun net start spec rounds crowd pickers left ⊎ (IsWatchedRun net start spec rounds crowd × IsTerminal (Step net) crowd)
+-- the run goes on, or it is over in a crowd that is terminal in rest
+abbrev pub IsOnTheWay : NetModel → NetModel → CrowdModel → RunSpec → List (List Meeting) → CrowdModel → List (List ℕ) → ℕ → Type 0
+IsOnTheWay rest net start spec rounds crowd pickers left =
+    AreOnTheRun rest net start spec rounds crowd pickers left ⊎ (IsWatchedRunUntil rest net start spec rounds crowd × IsTerminal (Step rest) crowd)
 
-module _ (net : NetModel) (start : CrowdModel) (spec : RunSpec) (rounds : List (List Meeting)) (crowd : CrowdModel) (pickers : List (List ℕ)) (left : ℕ) where
+module _ (rest net : NetModel) (start : CrowdModel) (spec : RunSpec) (rounds : List (List Meeting)) (crowd : CrowdModel) (pickers : List (List ℕ)) (left : ℕ) where
   module _ (end : CrowdModel) (after : List (List ℕ)) (round : List Meeting) (p : ArePlaying net crowd spec.workers pickers after round end) where
     -- a whole round
     all_played : AreAllMade spec.workers (min 4096 left) round → ArePlayed net crowd spec.workers (min 4096 left) pickers after round end
@@ -38,7 +38,7 @@ module _ (net : NetModel) (start : CrowdModel) (spec : RunSpec) (rounds : List (
       nobody_else = p.nobody_else;
     }
 
-    module _ (h : AreOnTheRun net start spec rounds crowd pickers left) (some : 1 ≤ left) (goes : IsTerminal (Step net) crowd → ⊥) (few : (w : ℕ) → w < spec.workers → made_by w round ≤ min 4096 left) where
+    module _ (h : AreOnTheRun rest net start spec rounds crowd pickers left) (some : 1 ≤ left) (goes : IsTerminal (Step rest) crowd → ⊥) (few : (w : ℕ) → w < spec.workers → made_by w round ≤ min 4096 left) where
       last_round : IsWatchedRound spec (length rounds + 1) round
       last_round = record {
         some_turn = subst (λ n. 1 ≤ n) (sym (next_turns net start spec rounds crowd pickers left h)) (let four : 1 ≤ 4096 = omega arith in le-min four some);
@@ -58,7 +58,7 @@ module _ (net : NetModel) (start : CrowdModel) (spec : RunSpec) (rounds : List (
           ∙ ap (λ n. picks spec.seed w (length start) n) (let e : length xs + length ys + 0 ≡ length (xs ++ ys) = omega (arith, length-append xs ys) in e)
 
       -- a last round that may lack meetings, since its crowd is terminal
-      pub stopped_run : IsTerminal (Step net) end → IsWatchedRun net start spec (rounds ++ round ∷ []) end
+      pub stopped_run : IsTerminal (Step rest) end → IsWatchedRunUntil rest net start spec (rounds ++ round ∷ []) end
       stopped_run terminal =
           record {
             each_round = λ k meetings e. each_case k meetings (get_pushed rounds round meetings k e);
@@ -79,14 +79,14 @@ module _ (net : NetModel) (start : CrowdModel) (spec : RunSpec) (rounds : List (
           whole_case k meetings l (inr e) = absurd (omega (arith, l, e.0))
 
     -- one more round of a run that goes on
-    pub one_round_more : IsOnTheWay net start spec rounds crowd pickers left → 1 ≤ left → (IsTerminal (Step net) crowd → ⊥) → ((w : ℕ) → w < spec.workers → made_by w round ≤ min 4096 left)
-        → AreAllMade spec.workers (min 4096 left) round ⊎ IsTerminal (Step net) end → IsOnTheWay net start spec (rounds ++ round ∷ []) end after (left - min 4096 left)
+    pub one_round_more : IsOnTheWay rest net start spec rounds crowd pickers left → 1 ≤ left → (IsTerminal (Step rest) crowd → ⊥) → ((w : ℕ) → w < spec.workers → made_by w round ≤ min 4096 left)
+        → AreAllMade spec.workers (min 4096 left) round ⊎ IsTerminal (Step rest) end → IsOnTheWay rest net start spec (rounds ++ round ∷ []) end after (left - min 4096 left)
     one_round_more (inr over) some goes few ends = absurd (goes over.1)
     one_round_more (inl on) some goes few (inl all) = inl (all_more_rounds net start spec rounds crowd pickers left on end after round (all_played all) some goes)
     one_round_more (inl on) some goes few (inr t) = inr (stopped_run on some goes few t, t)
 
   -- such a run, once it is over
-  pub run_over : IsOnTheWay net start spec rounds crowd pickers left → IsTerminal (Step net) crowd ⊎ (left ≡ 0) → IsWatchedRun net start spec rounds crowd
+  pub run_over : IsOnTheWay rest net start spec rounds crowd pickers left → IsTerminal (Step rest) crowd ⊎ (left ≡ 0) → IsWatchedRunUntil rest net start spec rounds crowd
   run_over (inl on) over = whole_is_watched net start spec rounds crowd (all_run_over net start spec rounds crowd pickers left on over)
   run_over (inr stopped) over = stopped.0
 

@@ -66,8 +66,8 @@ pub record IsPartOfRound (net : NetModel) (crowd : List Word) (workers turns : �
   pub agents : length p.crowd ≡ length crowd
   pub pickers : length p.pickers.items ≡ workers
 
--- such a round, which is whole or leads to a terminal crowd
-pub record IsWatchedRoundFrom (net : NetModel) (crowd : List Word) (workers turns : ℕ) (before : List (List ℕ))
+-- such a round, which is whole or leads to a crowd that is terminal in rest
+pub record IsWatchedRoundFrom (rest net : NetModel) (crowd : List Word) (workers turns : ℕ) (before : List (List ℕ))
     (p : RoundEnd) : Type 0 where
   pub part : IsPartOfRound net crowd workers turns before p
-  pub ends : AreAllMade workers turns p.meetings.items ⊎ IsTerminal (Step net) (crowd_of net p.crowd)
+  pub ends : AreAllMade workers turns p.meetings.items ⊎ IsTerminal (Step rest) (crowd_of net p.crowd)

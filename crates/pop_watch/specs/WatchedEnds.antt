@@ -11,7 +11,7 @@ use Rattle.pop_words.specs.declared.spec.RunSpec.{RunSpec}
 use Rattle.pair_workers.specs.declared.alone.End.{End}
 use Rattle.pair_workers.specs.declared.alone.RunEnd.{RunEnd}
 use Rattle.pair_workers.specs.declared.alone.End.TheVariants.{Terminal, Open}
-use Rattle.pair_workers.specs.WatchedRun.{IsWatchedRun, AreSpent}
+use Rattle.pair_workers.specs.WatchedRun.{IsWatchedRunUntil, AreSpent}
 
 -- why a run ended in this crowd after these rounds: the crowd is terminal; or the turns are spent and this pair of
 -- agents is the least that can change
@@ -20,9 +20,14 @@ WatchedEndsBy net crowd spec rounds Terminal = IsTerminal (Step net) crowd
 WatchedEndsBy net crowd spec rounds (Open a b) =
     IsLeastPair net crowd a b × AreSpent spec rounds × (IsTerminal (Step net) crowd → ⊥)
 
--- a watched run from this crowd: its rounds, the crowd that they lead to, and why it ended
-pub record IsWatchedRunFrom (net : NetModel) (crowd : List Word) (spec : RunSpec) (ran : RunEnd) : Type 0 where
-  pub run : IsWatchedRun net (crowd_of net crowd) spec ran.rounds (crowd_of net ran.crowd)
-  pub ends : WatchedEndsBy net (crowd_of net ran.crowd) spec ran.rounds ran.end
+-- a watched run from this crowd until it is terminal in rest: its rounds, the crowd that they lead to, and why it ended
+pub record IsWatchedRunFromUntil (rest net : NetModel) (crowd : List Word) (spec : RunSpec)
+    (ran : RunEnd) : Type 0 where
+  pub run : IsWatchedRunUntil rest net (crowd_of net crowd) spec ran.rounds (crowd_of net ran.crowd)
+  pub ends : WatchedEndsBy rest (crowd_of net ran.crowd) spec ran.rounds ran.end
   pub valid : AreValid net ran.crowd
   pub agents : length ran.crowd ≡ length crowd
+
+-- such a run up to a terminal crowd
+abbrev pub IsWatchedRunFrom : NetModel → List Word → RunSpec → RunEnd → Type 0
+IsWatchedRunFrom net crowd spec ran = IsWatchedRunFromUntil net net crowd spec ran

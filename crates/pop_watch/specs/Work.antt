@@ -5,14 +5,15 @@ use Rattle.agent_field.specs.declared.field.Field.{Field}
 use Rattle.agent_field.specs.declared.field.FieldSeat.{FieldSeat}
 use Rattle.agent_field.specs.Seats.{IsSeatOf, net_of, seat_number, spare_looks_of}
 use Rattle.pair_workers.specs.CrowdSize.{IsCrowdSize}
+use Rattle.pair_workers.specs.SameLanes.{HaveSameLanes}
 use Rattle.pair_workers.specs.Work.{agents_of_field}
 use Rattle.pair_workers.specs.declared.alone.TheConstants.{ROUND_TURNS}
 use Rattle.pop_watch.specs.declared.limits.TheConstants.{LOOKS_A_ROUND}
 
--- the field and the table of pairs belong to one net, and the observer has the seat 0, with room for all looks of a
--- round
+-- the field belongs to the net, words stand for the same crowds in the net of the table of pairs, and the observer has
+-- the seat 0, with room for all looks of a round
 pub record CanObserve (net tabled : NetModel) (f : Field) (turns : ℕ) (s : FieldSeat) : Type 0 where
-  pub table : tabled ≡ net
+  pub lanes : HaveSameLanes tabled net
   pub field : net_of f ≡ net
   pub agents : IsCrowdSize (agents_of_field f)
   pub ours : IsSeatOf f s

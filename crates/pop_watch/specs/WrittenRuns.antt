@@ -7,11 +7,16 @@ use Rattle.pop_words.specs.declared.kind.RunKind.{RunKind}
 use Rattle.pop_words.specs.declared.spec.RunSpec.{RunSpec}
 use Rattle.pair_workers.specs.declared.alone.End.{End}
 use Rattle.pop_journal.specs.Journal.{run_lines, text_of}
-pub use Rattle.pop_watch.specs.RunsOfKind.{IsRoundOf, IsRunOfKind}
+pub use Rattle.pop_watch.specs.RunsOfKind.{IsRoundOf, IsRunOfKind, IsRunOfKindUntil}
 
--- a run of this kind from a crowd to this end, and its lines after earlier text
-pub record IsWrittenRunOf (kind : RunKind) (net : NetModel) (crowd : List Word) (spec : RunSpec)
+-- a run of this kind from a crowd to this end until it is terminal in rest, and its lines after earlier text
+pub record IsWrittenRunOfUntil (kind : RunKind) (rest net : NetModel) (crowd : List Word) (spec : RunSpec)
     (before after : List ℕ) (last : List Word) (end : End) : Type 0 where
   pub rounds : List (List Meeting)
-  pub run : IsRunOfKind kind net crowd spec (record { rounds = rounds; crowd = last; end = end })
+  pub run : IsRunOfKindUntil kind rest net crowd spec (record { rounds = rounds; crowd = last; end = end })
   pub text : after ≡ before ++ text_of (run_lines kind spec rounds)
+
+-- such a run up to a terminal crowd
+abbrev pub IsWrittenRunOf : RunKind → NetModel → List Word → RunSpec → List ℕ → List ℕ → List Word → End → Type 0
+IsWrittenRunOf kind net crowd spec before after last end =
+    IsWrittenRunOfUntil kind net net crowd spec before after last end

@@ -6,6 +6,7 @@ ghost use Rattle.agent_field.specs.Seats.{IsSeatOf, KeepsLogs};
 ghost use Rattle.terminal_test.specs.TableNet.{table_net};
 ghost use Rattle.pop_words.specs.Options.{IsWithinLimits};
 ghost use Rattle.pair_workers.specs.CrowdSize.{IsCrowdSize};
+ghost use Rattle.pair_workers.specs.SameLanes.{HaveSameLanes};
 ghost use Rattle.pair_workers.specs.Turns.{CanMakeRound};
 ghost use Rattle.pair_workers.specs.Work.{agents_of_field, MayWork, HaveWorked};
 ghost use Rattle.pair_workers.specs.Run.{made_by};
@@ -97,7 +98,7 @@ fn field_round<R: Threads + Wait + Sync, G: Gate>(
     layout: &mut Layout,
     gate: &G,
 ) -> Result<(RoundEnd, Vec<u64>), NoMemory>
-    requires table { table_net table.now ≡ net.now }
+    requires lanes { HaveSameLanes (table_net table.now) net.now }
     requires round { CanMakeRound net.now crowd spec.now.workers turns pickers.items }
     requires limits { IsWithinLimits spec.now × (spec.now.workers ≤ WATCHED_WORKERS) }
     requires serves { Serves layout.old crowd spec.now.shards }
@@ -150,7 +151,7 @@ fn are_made(made: &[u64], turns: u64) -> bool
     made.iter().all(|n| *n == turns)
 }
 
-/// A round that is whole, or leads to a terminal crowd.
+/// A round that is whole, or leads to a crowd that is terminal by the table.
 pub(crate) fn watched_round<R: Threads + Wait + Sync, G: Gate>(
     rt: &R,
     alloc: Global,
@@ -163,11 +164,12 @@ pub(crate) fn watched_round<R: Threads + Wait + Sync, G: Gate>(
     layout: &mut Layout,
     gate: &G,
 ) -> Result<RoundEnd, NoMemory>
-    requires table { table_net table.now ≡ net.now }
+    requires lanes { HaveSameLanes (table_net table.now) net.now }
     requires round { CanMakeRound net.now crowd spec.now.workers turns pickers.items }
     requires limits { IsWithinLimits spec.now × (spec.now.workers ≤ WATCHED_WORKERS) }
     requires serves { Serves layout.old crowd spec.now.shards }
-    ensures round { IfOk result (IsWatchedRoundFrom net.now crowd spec.now.workers turns pickers.items) }
+    ensures round { IfOk result
+        (IsWatchedRoundFrom (table_net table.now) net.now crowd spec.now.workers turns pickers.items) }
     ensures serves { IfOk result (λ r. Serves layout.new r.crowd spec.now.shards) }
 {
     let (mut played, made) = field_round(

@@ -2,9 +2,11 @@
 
 ghost use Rattle.std.specs.Prelude.{◌≤◌, IfOk};
 ghost use Rattle.agent_field.specs.Layouts.{Serves};
+ghost use Rattle.terminal_test.specs.TableNet.{table_net};
 ghost use Rattle.pop_words.specs.Kinds.{most_workers_of};
 ghost use Rattle.pair_workers.specs.Turns.{CanMakeRound};
 ghost use Rattle.pair_workers.specs.Ends.{CanMakeRun};
+ghost use Rattle.pair_workers.specs.SameLanes.{HaveSameLanes};
 ghost use Rattle.pop_watch.specs.RunsOfKind.{IsRoundOf, IsTakenRunOf};
 
 use crate::context::RunContext;
@@ -36,7 +38,9 @@ fn round_of<R: Threads + Wait + Sync, G: Gate>(
     requires round { CanMakeRound run.now.net.now crowd run.now.spec.now.workers turns pickers.items }
     requires workers { run.now.spec.now.workers ≤ most_workers_of kind }
     requires serves { Serves layout.old crowd run.now.spec.now.shards }
-    ensures round { IfOk result (IsRoundOf kind run.now.net.now crowd run.now.spec.now.workers turns pickers.items) }
+    ensures round { IfOk result
+        (IsRoundOf kind (table_net run.now.table.now) run.now.net.now crowd run.now.spec.now.workers turns
+        pickers.items) }
     ensures serves { IfOk result (λ r. Serves layout.new r.crowd run.now.spec.now.shards) }
 {
     let (net, spec, gate) = (run.net, run.spec, run.gate);
@@ -49,12 +53,13 @@ fn round_of<R: Threads + Wait + Sync, G: Gate>(
 }
 
 /// A run of this kind on threads, whose rounds are given to a sink. Before each round the crowd is tested for being
-/// terminal. Returns the run's last crowd, and why it ended.
+/// terminal in `rest`. Returns the run's last crowd, and why it ended.
 pub(crate) fn run_on_threads<R: Threads + Wait + Sync, G: Gate, S: RoundSink>(
     rt: &R,
     alloc: Global,
     kind: RunKind,
     net: &Net,
+    rest: &Net,
     crowd: Crowd,
     spec: &RunSpec,
     gate: &G,
@@ -62,15 +67,16 @@ pub(crate) fn run_on_threads<R: Threads + Wait + Sync, G: Gate, S: RoundSink>(
 ) -> Result<(Crowd, End), NoMemory>
     requires can { CanMakeRun net.now crowd spec.now }
     requires workers { spec.now.workers ≤ most_workers_of kind }
+    requires lanes { HaveSameLanes rest.now net.now }
     ensures { IfOk result
-        (λ end. IsTakenRunOf kind S.takes net.now crowd spec.now sink.old sink.new end.0 end.1) }
+        (λ end. IsTakenRunOf kind S.takes rest.now net.now crowd spec.now sink.old sink.new end.0 end.1) }
 {
     let mut crowd = crowd;
     let mut pickers = first_pickers(alloc, spec)?;
     let mut left = spec.turns;
     let mut number = 1;
     let mut layout = Layout::new(alloc);
-    let table = PairTable::new(alloc, net)?;
+    let table = PairTable::new(alloc, rest)?;
     let run = RunContext {
         net,
         table: &table,

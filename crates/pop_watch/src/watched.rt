@@ -33,7 +33,7 @@ pub fn run_watched<R: Threads + Wait + Sync, G: Gate>(
         rounds: Vec::new(alloc),
     };
     let kind = RunKind::Watched;
-    let (crowd, end) = run_on_threads(rt, alloc, kind, net, crowd, spec, gate, &mut kept)?;
+    let (crowd, end) = run_on_threads(rt, alloc, kind, net, net, crowd, spec, gate, &mut kept)?;
     let KeptRounds { rounds } = kept;
     Ok(RunEnd {
         rounds: List::from_vec(rounds),

@@ -2,4 +2,4 @@ use Rattle.pair_workers.proofs.WholeWatched.{whole_is_watched}
 use Rattle.pop_watch.proofs.laws.whole_runs_are_watched.Goals as goal
 
 pub returns : goal.returns
-returns c = whole_is_watched
+returns c rest net start spec rounds end run = whole_is_watched net start spec rounds end run

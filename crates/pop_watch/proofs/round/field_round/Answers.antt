@@ -27,7 +27,7 @@ watch_beside-requires-clause-observer g c κs within =
     let e = c.in_ok-field.ensures.opened in
     let r = c.in_ok-reserve_looks.ensures in
     record {
-      table = c.requires.table;
+      lanes = c.requires.lanes;
       field = e.field.net_is;
       agents = subst (λ (l : List Word). (2 ≤ length l) × (length l ≤ 65536)) (sym e.field.opening_is) e.agents;
       ours = r.ours;

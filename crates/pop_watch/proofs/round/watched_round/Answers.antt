@@ -1,10 +1,13 @@
 use Rattle.std.proofs.Common.{◌≡◌, ◌<◌, ℕ, List, length, inl, inr, sym, ap, subst, ◌∙◌, arith}
-use Rattle.std.specs.Prelude.{All, true, ◌↔◌}
-use Rattle.pop_net.specs.NetModel.{NetModel}
+use Rattle.std.specs.Prelude.{All}
+use Rattle.pop_net.specs.NetModel.{CrowdModel}
+use Rattle.pop_net.specs.declared.net.Word.{Word}
 use Rattle.pop_net.specs.Step.{Step}
 use Rattle.pop_net.specs.Terminal.{IsTerminal}
 use Rattle.pop_net.specs.Lanes.{crowd_of}
+use Rattle.terminal_test.specs.TableNet.{table_net}
 use Rattle.pair_workers.specs.Run.{made_by}
+use Rattle.pair_workers.proofs.SameLanes.{crowd_same, valid_same}
 use Rattle.pop_watch.specs.Playing.{IsPlayedFrom}
 use Rattle.pop_watch.proofs.round.watched_round.Goals as goal
 
@@ -22,13 +25,19 @@ returns-then-are_made g c =
 
 pub returns-then-branch : goal.returns-then-branch
 returns-then-branch g c =
+    let rest = table_net c.args.table.now in
     record {
       round = record {
         part = c.in_ok-played.ensures.part;
-        ends = inr ((subst (λ (n : NetModel). (c.in_ok-is_terminal.field-0 ≡ true) ↔ IsTerminal (Step n) (crowd_of n c.in_ok-played.played.crowd)) c.requires.table c.in_ok-is_terminal.ensures.terminal).0 c.if-branch.true);
+        ends = inr (subst (λ (f : List Word → CrowdModel). IsTerminal (Step rest) (f c.in_ok-played.played.crowd)) (crowd_same rest c.args.net.now c.requires.lanes) (c.in_ok-is_terminal.ensures.terminal.0 c.if-branch.true));
       };
       serves = c.in_ok-played.ensures.serves;
     }
+
+pub is_terminal-requires : goal.is_terminal-requires
+is_terminal-requires g c =
+    let lanes = c.requires.lanes in
+    valid_same c.args.net.now (table_net c.args.table.now) (sym lanes) c.in_ok-played.played.crowd c.in_ok-played.ensures.part.valid
 
 pub returns : goal.returns
 returns g c =

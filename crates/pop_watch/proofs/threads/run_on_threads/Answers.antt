@@ -1,15 +1,19 @@
-use Rattle.std.proofs.Common.{◌≡◌, min, [], ◌∷◌, ◌++◌, inl, sym, subst, ◌∙◌, arith, rules, refl, length-append}
+use Rattle.std.proofs.Common.{◌≡◌, min, [], ◌∷◌, ◌++◌, inl, sym, subst, ◌∙◌, arith, refl, length-append}
 use Rattle.std.specs.Prelude.{true, ◌↔◌}
 use Rattle.pop_net.specs.NetModel.{NetModel}
 use Rattle.pop_net.specs.Lanes.{crowd_of, AreValid}
-use Rattle.pair_workers.specs.Ends.{RunGoesOn}
+use Rattle.pair_workers.specs.Ends.{RunGoesOn, IsEndOf}
 use Rattle.pair_workers.proofs.ManyRounds.{all_no_rounds}
+use Rattle.pair_workers.proofs.RunEnds.{goes_at}
+use Rattle.pair_workers.proofs.SameLanes.{valid_same}
 use Rattle.pair_workers.proofs.Taken.{takes_more}
+use Rattle.pop_watch.specs.RunsOfKind.{IsRoundOf}
 use Rattle.pop_watch.proofs.RunsOfKind.{begun_of, round_more_of, sizes_of, run_ended_of}
 use Rattle.pop_watch.proofs.threads.run_on_threads.Goals as goal
 
 pub rounds-init : goal.rounds-init
 rounds-init g c =
+    let rest = c.args.rest.now in
     let net = c.args.net.now in
     let start = crowd_of net c.args.crowd in
     let spec = c.args.spec.now in
@@ -18,7 +22,7 @@ rounds-init g c =
     record {
       made = record {
         rounds = [];
-        run = begun_of c.args.kind net start spec pickers (all_no_rounds net start spec pickers first.first);
+        run = begun_of c.args.kind rest net start spec pickers (all_no_rounds rest net start spec pickers first.first);
         taken = refl;
         next = refl;
       };
@@ -32,6 +36,7 @@ rounds-init g c =
 
 pub rounds-preserved : goal.rounds-preserved
 rounds-preserved g c =
+    let rest = c.args.rest.now in
     let net = c.args.net.now in
     let spec = c.args.spec.now in
     let start = crowd_of net c.args.crowd in
@@ -39,15 +44,16 @@ rounds-preserved g c =
     let made = was.made in
     let old = c.rounds.pickers.items in
     let played = c.in_ok-played.played in
-    let is = c.in_ok-played.ensures.round in
+    let is = subst (λ (n : NetModel). IsRoundOf c.args.kind n net c.rounds.crowd spec.workers c.min-turns.result old played) c.in_ok-table.ensures c.in_ok-played.ensures.round in
     let meetings = played.meetings.items in
     let least : c.min-turns.result ≡ min 4096 c.rounds.left = c.min-turns.ensures in
-    let more = (subst (λ (n : NetModel). (c.in_ok-goes_on.field-0 ≡ true) ↔ RunGoesOn n (crowd_of n c.rounds.crowd) c.rounds.left) c.in_ok-table.ensures c.in_ok-goes_on.ensures).0 c.if-branch.true in
-    let sizes = sizes_of c.args.kind net c.rounds.crowd spec.workers c.min-turns.result old played was.pickers is in
+    let goes = subst (λ (n : NetModel). (c.in_ok-goes_on.field-0 ≡ true) ↔ RunGoesOn n (crowd_of n c.rounds.crowd) c.rounds.left) c.in_ok-table.ensures c.in_ok-goes_on.ensures in
+    let more = (goes_at rest net c.rounds.crowd c.rounds.left c.in_ok-goes_on.field-0 c.requires.lanes goes).0 c.if-branch.true in
+    let sizes = sizes_of c.args.kind rest net c.rounds.crowd spec.workers c.min-turns.result old played was.pickers is in
     record {
       made = record {
         rounds = made.rounds ++ meetings ∷ [];
-        run = round_more_of net start spec made.rounds c.rounds.crowd old c.rounds.left c.min-turns.result least played c.args.kind made.run more.0 more.1 is;
+        run = round_more_of rest net start spec made.rounds c.rounds.crowd old c.rounds.left c.min-turns.result least played c.args.kind made.run more.0 more.1 is;
         taken = takes_more g.S.RoundSink.takes _ _ _ 1 c.rounds.number made.rounds meetings made.next made.taken c.in_ok-take.ensures;
         next = omega (arith, made.next, length-append made.rounds (meetings ∷ []));
       };
@@ -61,11 +67,14 @@ rounds-preserved g c =
 
 pub returns : goal.returns
 returns g c =
+    let rest = c.args.rest.now in
     let net = c.args.net.now in
     let spec = c.args.spec.now in
     let was = c.rounds.invariant in
     let made = was.made in
-    let run = run_ended_of net _ c.args.crowd c.rounds.crowd spec made.rounds c.rounds.pickers.items c.rounds.left c.in_ok-goes_on.field-0 c.in_ok-end.end c.args.kind made.run was.valid was.agents c.if-branch.false c.in_ok-table.ensures c.in_ok-goes_on.ensures c.in_ok-end.ensures in
+    let goes = subst (λ (n : NetModel). (c.in_ok-goes_on.field-0 ≡ true) ↔ RunGoesOn n (crowd_of n c.rounds.crowd) c.rounds.left) c.in_ok-table.ensures c.in_ok-goes_on.ensures in
+    let ended = subst (λ (n : NetModel). IsEndOf n (crowd_of n c.rounds.crowd) c.in_ok-end.end) c.in_ok-table.ensures c.in_ok-end.ensures in
+    let run = run_ended_of rest net c.args.crowd c.rounds.crowd spec made.rounds c.rounds.pickers.items c.rounds.left c.in_ok-goes_on.field-0 c.in_ok-end.end c.args.kind made.run was.valid was.agents c.if-branch.false c.requires.lanes goes ended in
     record {
       rounds = made.rounds;
       run = run;
@@ -73,10 +82,14 @@ returns g c =
     }
 
 pub goes_on-requires : goal.goes_on-requires
-goes_on-requires g c = subst (λ (n : NetModel). AreValid n c.rounds.crowd) (sym c.in_ok-table.ensures) c.rounds.invariant.valid
+goes_on-requires g c =
+    subst (λ (n : NetModel). AreValid n c.rounds.crowd) (sym c.in_ok-table.ensures)
+    (valid_same c.args.net.now c.args.rest.now (sym c.requires.lanes) c.rounds.crowd c.rounds.invariant.valid)
 
 pub end_of-requires : goal.end_of-requires
-end_of-requires g c = subst (λ (n : NetModel). AreValid n c.rounds.crowd) (sym c.in_ok-table.ensures) c.rounds.invariant.valid
+end_of-requires g c =
+    subst (λ (n : NetModel). AreValid n c.rounds.crowd) (sym c.in_ok-table.ensures)
+    (valid_same c.args.net.now c.args.rest.now (sym c.requires.lanes) c.rounds.crowd c.rounds.invariant.valid)
 
 pub round_of-requires-clause-round : goal.round_of-requires-clause-round
 round_of-requires-clause-round g c κs within =

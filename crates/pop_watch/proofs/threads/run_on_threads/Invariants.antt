@@ -6,7 +6,7 @@ use Rattle.pop_watch.proofs.threads.run_on_threads.Given as goal
 
 abbrev pub invariant-rounds : goal.invariant-rounds
 invariant-rounds g l = record {
-  made : Made l.kind g.S.RoundSink.takes l.net (crowd_of l.net l.fn.crowd) l.spec l.fn.sink l.sink (crowd_of l.net l.crowd) l.pickers.items l.left l.number;
+  made : Made l.kind g.S.RoundSink.takes l.rest l.net (crowd_of l.net l.fn.crowd) l.spec l.fn.sink l.sink (crowd_of l.net l.crowd) l.pickers.items l.left l.number;
   valid : AreValid l.net l.crowd;
   agents : length l.crowd ≡ length l.fn.crowd;
   pickers : length l.pickers.items ≡ l.spec.workers;

@@ -1,4 +1,4 @@
-use Rattle.std.proofs.Common.{◌≡◌, List, ℕ, ◌++◌, ap, ◌∙◌}
+use Rattle.std.proofs.Common.{List, ℕ, ◌++◌, ap, ◌∙◌}
 use Rattle.pop_journal.specs.Journal.{round_lines, text_of}
 use Rattle.pop_journal.proofs.MadeAlone.{ended_text}
 use Rattle.pop_journal.proofs.WrittenAll.{all_written}

@@ -1,0 +1,8 @@
+use Rattle.std.proofs.Common.{sym}
+use Rattle.terminal_test.specs.TableNet.{table_net}
+use Rattle.pair_workers.proofs.SameLanes.{valid_same}
+use Rattle.pop_watch.proofs.observe.look_on.Goals as goal
+
+pub is_terminal-requires : goal.is_terminal-requires
+is_terminal-requires g c =
+    valid_same c.args.net.now (table_net c.args.table.now) (sym c.requires.lanes) c.in_ok-crowd.crowd c.in_ok-crowd.ensures.valid
