@@ -69,6 +69,12 @@ states_at (l ∷ leaves) (p ∷ parts) zero made h =
     let e : layered l p.layers ≡ made = cc in (l, refl, ap (λ (x : LeafModel). length x.states) e)
 states_at (l ∷ leaves) (p ∷ parts) (suc i) made h = states_at leaves parts i made h
 
+-- the leaves have as many states as the given ones
+pub states_listed : (leaves : List LeafModel) (parts : List LeafProof) → map (λ (leaf : LeafModel). length leaf.states) (hushed_leaves leaves parts) ≡ map (λ (leaf : LeafModel). length leaf.states) leaves
+states_listed [] parts = refl
+states_listed (leaf ∷ leaves) [] = refl
+states_listed (leaf ∷ leaves) (part ∷ parts) = ap (λ (sizes : List ℕ). length leaf.states ∷ sizes) (states_listed leaves parts)
+
 -- ---- the net
 
 module _ (net : NetModel) (proof : Proof) where

@@ -1,5 +1,5 @@
 mod Copied
-mod HushedLeaves
+pub mod HushedLeaves
 mod ChosenLayers
 mod Takes
 mod Dead

@@ -13,6 +13,7 @@ use Rattle.pop_net.specs.InputCrowd.{IsInput, input_crowd, leaf_input_crowd}
 use Rattle.pop_net.specs.Step.{LeafStep, Step}
 use Rattle.pop_net.specs.Reachable.{Leads, Reachable}
 use Rattle.pop_net.specs.Terminal.{IsTerminal}
+use Rattle.pop_net.proofs.Lifting.{terminal_component}
 use Rattle.pop_net.proofs.Projection.{component, slice_get-component, input_component, reachable_component}
 use Rattle.pop_net.proofs.Quiet.{All-slice_get}
 use Rattle.pop_net.proofs.Tuples.{input_tuples, reachable_tuples, leads_terminal}
@@ -29,6 +30,7 @@ use Rattle.cert_base.specs.ValidProof.{ValidLeafProof}
 use Rattle.cert_layers.proofs.Termination.{leads-append}
 use Rattle.cert_goals.specs.Reached.{IsDeadFor, IsAtGoal}
 use Rattle.cert_goals.specs.GoalLaws.{IsClosedGoal, goal_for}
+use Rattle.cert_goals.specs.SomeLayers.{layered}
 use Rattle.cert_goals.specs.ValidGoal.{moves_of_goal, sets_of_goal}
 use Rattle.cert_goals.proofs.ValidGoals.{all_valid_hold}
 use Rattle.list_laws.proofs.Options.{item_within}
@@ -41,8 +43,11 @@ use Rattle.pop_settle.specs.declared.take.Take.{Take}
 use Rattle.pop_settle.specs.Settlement.{IsSettlement}
 use Rattle.pop_settle.proofs.Endings.{leads_reached}
 use Rattle.goal_settle.specs.Chosen.{layers_at, part_at, proof_at}
+use Rattle.goal_settle.specs.HushedNet.{hushed_net}
 use Rattle.goal_settle.specs.Laws.{EndsRight}
+use Rattle.goal_settle.specs.Resting.{IsResting}
 use Rattle.goal_settle.proofs.Dead.{layers_dead}
+use Rattle.goal_settle.proofs.HushedLeaves.{hushed_length, hushed_at}
 
 -- ---- a leaf
 
@@ -142,3 +147,22 @@ settlement_right net proof counts crowd end takes is s p preds valid input way =
     dead : (i : ℕ) (leaf : LeafModel) (part : StablePart) → slice_get net.leaves i ≡ Some leaf → slice_get proof.leaves i ≡ Some part → IsDeadFor leaf (moves_of_layers (layers_at counts part)) (component i end)
     dead i leaf part h k =
         layers_dead net (proof_at counts proof) end s.ended i leaf (part_at counts part) h (slice_get-map (part_at counts) proof.leaves i ∙ ap (option_map (part_at counts)) k)
+
+-- ---- a crowd in which no move of the chosen layers is possible
+
+pub resting_right : (net : NetModel) (proof : StableProof) (counts : List ℕ) (crowd : CrowdModel) → IsNet net → IsResting net proof counts crowd → EndsRight net proof counts crowd crowd
+resting_right net proof counts crowd is resting p preds valid input way =
+    outputs_rest net p proof is preds valid counts input crowd way dead
+  where
+    hushed : NetModel
+    hushed = hushed_net net (proof_at counts proof)
+
+    tuples : All (IsTuple hushed) crowd
+    tuples =
+        subst (λ (n : ℕ). All (λ (tuple : Tuple). length tuple ≡ n) crowd) (sym (hushed_length net.leaves (proof_at counts proof).leaves))
+        (reachable_tuples net (input_crowd net counts) crowd (input_tuples net counts) way)
+
+    dead : (i : ℕ) (leaf : LeafModel) (part : StablePart) → slice_get net.leaves i ≡ Some leaf → slice_get proof.leaves i ≡ Some part → IsDeadFor leaf (moves_of_layers (layers_at counts part)) (component i crowd)
+    dead i leaf part h k =
+        let chosen = slice_get-map (part_at counts) proof.leaves i ∙ ap (option_map (part_at counts)) k in
+        terminal_component hushed i (layered leaf (layers_at counts part)) crowd (hushed_at net.leaves (proof_at counts proof).leaves i leaf (part_at counts part) h chosen) tuples resting

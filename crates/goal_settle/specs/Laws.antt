@@ -14,6 +14,7 @@ use Rattle.goal_checker.specs.StableSound.{AreStablePreds}
 use Rattle.pop_settle.specs.declared.take.Take.{Take}
 use Rattle.pop_settle.specs.Settlement.{IsSettlement}
 use Rattle.goal_settle.specs.Chosen.{proof_at}
+use Rattle.goal_settle.specs.Resting.{IsResting}
 
 -- if the proof is valid for the predicate, and the crowd on the way from the input with these counts: at the end every
 -- agent outputs the predicate's value, and does so for ever, whatever happens
@@ -26,5 +27,8 @@ EndsRight net proof counts crowd end =
 pub record SettlementsRest : Type 0 where
   pub right : (net : NetModel) (proof : StableProof) (counts : List ℕ) (crowd end : CrowdModel) (takes : List Take)
       → IsNet net → IsSettlement net (proof_at counts proof) crowd takes end → EndsRight net proof counts crowd end
+  -- and so in any crowd in which no move of these layers is possible, however the agents came there
+  pub rests : (net : NetModel) (proof : StableProof) (counts : List ℕ) (crowd : CrowdModel)
+      → IsNet net → IsResting net proof counts crowd → EndsRight net proof counts crowd crowd
   -- the chosen layers allow no more steps for each agent than the whole proof
   pub short : (proof : StableProof) (counts : List ℕ) → proof_bound (proof_at counts proof) ≤ stable_bound proof
