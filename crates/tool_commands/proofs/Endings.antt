@@ -11,7 +11,7 @@ use Rattle.pop_words.specs.declared.spec.RunSpec.{RunSpec}
 use Rattle.pop_net.specs.InputCrowd.{input_crowd}
 use Rattle.pair_workers.specs.Run.{joined}
 use Rattle.pop_journal.specs.Form.{journal_in}
-use Rattle.pop_journal.specs.Expected.{Difference, first_difference, journal_compared}
+use Rattle.pop_journal.specs.Expected.{Difference, first_difference, journal_compared_until}
 use Rattle.cert_json.specs.declared.bundle.Bundle.{Bundle}
 use Rattle.pop_checker.specs.declared.fault.Rejected.{Rejected}
 use Rattle.tool_texts.specs.declared.refusal.Refusal.{Refusal}
@@ -28,6 +28,8 @@ use Rattle.tool_commands.specs.declared.bundle.AnyBundle.{AnyBundle}
 use Rattle.tool_commands.specs.declared.bundle.AnyBundle.TheVariants.{Plain, Stable}
 use Rattle.tool_commands.specs.Check.{judgement, stable_judgement, OfAnyBundle, OfLine, CheckGives}
 use Rattle.tool_commands.specs.Show.{shown_or_rejected, OfBundle as OfShownBundle, OfLine as OfShownLine, ShowGives}
+use Rattle.tool_commands.specs.StableBundles.{net_of}
+use Rattle.tool_commands.specs.Course.{course_of}
 use Rattle.tool_commands.specs.Run.{run_ending, OfJudged, OfLines as OfRunLines, RunGives}
 use Rattle.tool_commands.specs.declared.replay.TheConstants.{JOURNAL_LINE}
 use Rattle.tool_commands.specs.Replay.{journal_read, compared_output, journal_output, judged_output, OfBegun as OfReplayBegun, OfLines as OfReplayLines, ReplayGives}
@@ -90,7 +92,7 @@ run_ending_other : (pair : Option (ℕ × ℕ)) → run_ending pair ≢ ReadFaul
 run_ending_other None e = absurd cc
 run_ending_other (Some pair) e = absurd cc
 
-judged_other : (kind : RunKind) (spec : RunSpec) (lines : List ℕ) (bundle : Bundle) (counts : List ℕ) (judged : Option Rejected) (output : Output) → OfJudged kind spec lines bundle counts judged output → IsOther (Ok output)
+judged_other : (kind : RunKind) (spec : RunSpec) (lines : List ℕ) (bundle : AnyBundle) (counts : List ℕ) (judged : Option StableRejected) (output : Output) → OfJudged kind spec lines bundle counts judged output → IsOther (Ok output)
 judged_other kind spec lines bundle counts None output is e = run_ending_other is.pair (sym is.ending ∙ e)
 judged_other kind spec lines bundle counts (Some rejected) output is e = absurd (cc (ap (λ (o : Output). o.ending) is, e))
 
@@ -104,11 +106,12 @@ compared_other : (meetings : ℕ) (found : Option Difference) → IsOther (Ok (c
 compared_other meetings None e = absurd cc
 compared_other meetings (Some difference) e = absurd cc
 
-replay_judged_other : (kind : RunKind) (bundle : Bundle) (counts : List ℕ) (lines : List (List ℕ)) (judged : Option Rejected) → IsOther (judged_output kind bundle counts lines judged)
+replay_judged_other : (kind : RunKind) (bundle : AnyBundle) (counts : List ℕ) (lines : List (List ℕ)) (judged : Option StableRejected) → IsOther (judged_output kind bundle counts lines judged)
 replay_judged_other kind bundle counts lines None =
-    let start = input_crowd bundle.net counts in
-    bind_keeps IsOther refused (journal_read kind (journal_in kind (length start) JOURNAL_LINE lines)) (λ journal. Ok (journal_output bundle.net start journal))
-    (λ journal. compared_other (length (joined journal.rounds)) (first_difference (journal.first + 1) (journal_compared bundle.net start journal)))
+    let start = input_crowd (net_of bundle) counts in
+    let course = course_of bundle counts in
+    bind_keeps IsOther refused (journal_read kind (journal_in kind (length start) JOURNAL_LINE lines)) (λ journal. Ok (journal_output course start journal))
+    (λ journal. compared_other (length (joined journal.rounds)) (first_difference (journal.first + 1) (journal_compared_until course.rest course.outcome course.net start journal)))
 replay_judged_other kind bundle counts lines (Some rejected) = λ e. absurd cc
 
 replay_other : (kind : RunKind) (lines : List (List ℕ)) (given : Result Output Refusal) → ReplayGives kind lines given → IsOther given

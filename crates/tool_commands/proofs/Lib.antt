@@ -5,6 +5,7 @@ pub mod Rejected
 pub mod Played
 pub mod Ends
 pub mod Made
+pub mod ProvedBundles
 pub mod PlayTuples
 pub mod Leads
 pub mod Ready

@@ -9,13 +9,14 @@ use Rattle.tool_texts.specs.Steps.{After}
 use Rattle.tool_texts.specs.Lines.{just_one}
 use Rattle.tool_texts.proofs.Goes.{one_after}
 use Rattle.tool_texts.proofs.OneValue.{one_value}
-use Rattle.tool_commands.specs.Bundles.{bundle_in, begun, IsBundleOf, IsBegunBy, IsJudged}
+use Rattle.tool_commands.specs.Bundles.{bundle_in, IsBundleOf, IsJudged}
 use Rattle.goal_json.specs.declared.bundle.StableBundle.{StableBundle}
 use Rattle.goal_checker.specs.declared.fault.StableRejected.{StableRejected}
+use Rattle.goal_checker.specs.declared.fault.StableRejected.TheVariants as rejected
 use Rattle.goal_checker.proofs.OneStableFault.{one_stable_rejected, none_stable_rejected}
 use Rattle.tool_commands.specs.declared.bundle.AnyBundle.{AnyBundle}
 use Rattle.tool_commands.specs.declared.bundle.AnyBundle.TheVariants.{Plain, Stable}
-use Rattle.tool_commands.specs.StableBundles.{any_bundle_in, any_begun, IsAnyBundleOf, IsAnyBegunBy, IsStableJudged}
+use Rattle.tool_commands.specs.StableBundles.{any_bundle_in, any_begun, IsAnyBundleOf, IsAnyBegunBy, IsStableJudged, IsAnyJudged}
 use Rattle.tool_commands.specs.Check.{judgement, stable_judgement, OfBundle, OfStableBundle, OfAnyBundle, OfLine, CheckGives}
 
 pub one_judged : (bundle : Bundle) (v w : Option Rejected) → IsJudged bundle v → IsJudged bundle w → v ≡ w
@@ -28,9 +29,6 @@ one_judged bundle (Some v) (Some w) p q =
 pub one_bundle : (line : List ℕ) (r s : Result Bundle Refusal) → IsBundleOf line r → IsBundleOf line s → r ≡ s
 one_bundle line r s p q = p.2 ∙ ap bundle_in (one_value line p.0 q.0 p.1 q.1) ∙ sym q.2
 
-pub one_begin : (first second : List ℕ) (r s : Result (Bundle × List ℕ) Refusal) → IsBegunBy first second r → IsBegunBy first second s → r ≡ s
-one_begin first second r s p q = p.2 ∙ ap (λ v. begun v second) (one_value first p.0 q.0 p.1 q.1) ∙ sym q.2
-
 of_bundle : (bundle : Bundle) (x y : Result Output Refusal) → OfBundle bundle x → OfBundle bundle y → x ≡ y
 of_bundle bundle x y p q =
     p.2 ∙ ap (λ (o : Option Rejected). Ok (judgement bundle o)) (one_judged bundle p.0 q.0 p.1 q.1) ∙ sym q.2
@@ -41,6 +39,17 @@ one_stable_judged bundle None (Some rejected) p q = absurd (none_stable_rejected
 one_stable_judged bundle (Some rejected) None p q = absurd (none_stable_rejected bundle.net bundle.pred bundle.proof rejected q p)
 one_stable_judged bundle (Some v) (Some w) p q =
     ap (λ (r : StableRejected). Some r) (one_stable_rejected bundle.net bundle.pred bundle.proof v w p q)
+
+pub one_any_judged : (bundle : AnyBundle) (v w : Option StableRejected) → IsAnyJudged bundle v → IsAnyJudged bundle w → v ≡ w
+one_any_judged (Plain bundle) None None p q = refl
+one_any_judged (Plain bundle) None (Some (rejected.Plain part)) p q = absurd (none_rejected bundle.net bundle.pred bundle.proof part p q)
+one_any_judged (Plain bundle) None (Some (rejected.Goal leaf value why)) p q = absurd q
+one_any_judged (Plain bundle) (Some (rejected.Goal leaf value why)) w p q = absurd p
+one_any_judged (Plain bundle) (Some (rejected.Plain part)) None p q = absurd (none_rejected bundle.net bundle.pred bundle.proof part q p)
+one_any_judged (Plain bundle) (Some (rejected.Plain part)) (Some (rejected.Goal leaf value why)) p q = absurd q
+one_any_judged (Plain bundle) (Some (rejected.Plain v)) (Some (rejected.Plain w)) p q =
+    ap (λ (r : Rejected). Some (rejected.Plain r)) (one_rejected bundle.net bundle.pred bundle.proof v w p q)
+one_any_judged (Stable bundle) v w p q = one_stable_judged bundle v w p q
 
 of_stable : (bundle : StableBundle) (x y : Result Output Refusal) → OfStableBundle bundle x → OfStableBundle bundle y → x ≡ y
 of_stable bundle x y p q =

@@ -13,9 +13,8 @@ use Rattle.tool_texts.specs.declared.refusal.Refusal.{Refusal}
 use Rattle.tool_texts.specs.declared.refusal.Refusal.TheVariants.{NotJson}
 use Rattle.tool_texts.specs.declared.output.Output.{Output}
 use Rattle.tool_texts.specs.Rejections.{rejection_output}
-use Rattle.tool_texts.specs.Steps.{◌>>=◌}
 use Rattle.tool_texts.specs.Json.{HasValue}
-use Rattle.tool_commands.specs.Start.{formatted, fitting_in}
+use Rattle.tool_commands.specs.Start.{formatted}
 
 -- the bundle of a line that has this value, or no JSON
 abbrev pub bundle_in : Option Data → Result Bundle Refusal
@@ -25,17 +24,6 @@ bundle_in (Some d) = formatted (bundle_at d)
 -- the bundle of this line, or why it is refused
 abbrev pub IsBundleOf : List ℕ → Result Bundle Refusal → Type 0
 IsBundleOf line bundle = (value : Option Data) × HasValue line value × (bundle ≡ bundle_in value)
-
--- the bundle, and the counts of a crowd line with which its net starts
-unfoldable pub begun : Option Data → List ℕ → Result (Bundle × List ℕ) Refusal
-begun value line = do
-  bundle ← bundle_in value
-  counts ← fitting_in bundle.net line
-  Ok (bundle, counts)
-
--- the bundle of the first line with the counts of the second, or why one of them is refused
-abbrev pub IsBegunBy : List ℕ → List ℕ → Result (Bundle × List ℕ) Refusal → Type 0
-IsBegunBy first second begin = (value : Option Data) × HasValue first value × (begin ≡ begun value second)
 
 -- the limits that the check needs
 pub record IsBundleWithin (bundle : Bundle) : Type 0 where

@@ -13,6 +13,7 @@ use Rattle.pair_workers.specs.Run.{IsRun, joined}
 use Rattle.pair_workers.specs.declared.alone.RunEnd.{RunEnd}
 use Rattle.pop_journal.specs.Journal.{last_line, text_of}
 use Rattle.pop_journal.specs.declared.last.Last.{Last}
+use Rattle.pop_journal.specs.declared.last.Last.TheVariants.{Verdict}
 use Rattle.pop_demo.specs.DemoCase.{names_of_demo, demo_tree, demo_pred, demo_counts, demo_spec}
 use Rattle.cert_base.specs.declared.proof.Proof.{Proof}
 use Rattle.cert_base.specs.ProofLimits.{IsProofWithin}
@@ -56,7 +57,8 @@ pub record IsDemoOutput (number : ℕ) (output : Output) : Type 0 where
   pub pair : Option (ℕ × ℕ)
   pub last : IsLast (demo_net number) end pair
   pub text : output.text ≡ text_of
-      (summary_lines number rounds (journal_end (predicate_value (demo_tree number) (demo_counts number)) pair))
+      (summary_lines number rounds
+      (journal_end (Verdict (predicate_value (demo_tree number) (demo_counts number))) pair))
   pub ending : output.ending ≡ run_ending pair
 
 -- what `demo` gives; its number is within the limit

@@ -5,6 +5,8 @@ pub mod StableBundles
 pub mod Check
 pub mod Show
 pub mod Play
+pub mod Course
+pub mod Proved
 pub mod Run
 pub mod Replay
 pub mod Settle

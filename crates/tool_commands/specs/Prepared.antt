@@ -5,11 +5,13 @@ use Rattle.pop_net.specs.InputCrowd.{IsInput, input_crowd}
 use Rattle.pop_net.specs.Lanes.{crowd_of, AreValid}
 use Rattle.pop_net.specs.declared.net.Word.{Word}
 use Rattle.pop_crowd.specs.declared.crowd.Meeting.{Meeting}
-use Rattle.pair_workers.specs.WatchedRun.{IsRunOf}
+use Rattle.pair_workers.specs.WatchedRun.{IsRunOfUntil}
 use Rattle.pair_workers.specs.declared.alone.End.{End}
 use Rattle.pair_workers.specs.declared.alone.RunEnd.{RunEnd}
 use Rattle.pop_journal.specs.Journal.{run_lines, text_of}
+use Rattle.pop_words.specs.declared.kind.RunKind.{RunKind}
 use Rattle.pop_words.specs.declared.kind.RunKind.TheVariants.{Whole}
+use Rattle.pop_words.specs.declared.spec.RunSpec.{RunSpec}
 use Rattle.pop_words.specs.Kinds.{most_workers_of}
 use Rattle.pop_words.specs.Options.{IsWithinLimits}
 use Rattle.tool_texts.specs.declared.refusal.Refusal.{Refusal}
@@ -21,6 +23,8 @@ use Rattle.tool_commands.specs.declared.prepared.Prepared.{Prepared}
 use Rattle.tool_commands.specs.declared.prepared.Prepared.TheVariants.{Text, Alone, Threads, Demo}
 use Rattle.tool_commands.specs.Start.{IsStart}
 use Rattle.tool_commands.specs.Play.{IsLast}
+use Rattle.tool_commands.specs.Course.{Course}
+use Rattle.tool_commands.specs.Proved.{proved_net, proved_course, IsProved}
 use Rattle.tool_commands.specs.Run.{open_pair, IsRunOutput}
 use Rattle.tool_commands.specs.Demo.{CanDemo, IsDemoOutput}
 
@@ -28,25 +32,32 @@ use Rattle.tool_commands.specs.Demo.{CanDemo, IsDemoOutput}
 pub record CanRun (run : PendingRun) : Type 0 where
   pub limits : IsWithinLimits run.setting.spec
   pub workers : run.setting.spec.workers ≤ most_workers_of run.setting.kind
-  pub start : IsStart run.setting.checked.net (record { counts = run.setting.counts; crowd = run.crowd })
+  pub proved : IsProved run.setting.proved
+  pub start : IsStart (proved_net run.setting.proved) (record { counts = run.setting.counts; crowd = run.crowd })
 
--- a run of this setting that was made
-pub record IsRunOfSetting (setting : Setting) (ran : RunEnd) : Type 0 where
-  pub input : IsInput (length setting.checked.net.variables) (number_of_helpers setting.checked.net) setting.counts
-  pub run : IsRunOf setting.kind setting.checked.net
-      (input_crowd setting.checked.net setting.counts) setting.spec ran.rounds (crowd_of setting.checked.net ran.crowd)
-  pub last : IsLast setting.checked.net (crowd_of setting.checked.net ran.crowd) (open_pair ran.end)
-  pub valid : AreValid setting.checked.net ran.crowd
+-- the course of the runs of a setting
+abbrev pub course_at : Setting → Course
+course_at setting = proved_course setting.proved setting.counts
+
+-- a run of this kind on this course that was made
+pub record IsRunOnCourse (kind : RunKind) (course : Course) (counts : List ℕ) (spec : RunSpec) (ran : RunEnd)
+    : Type 0 where
+  pub input : IsInput (length course.net.variables) (number_of_helpers course.net) counts
+  pub run : IsRunOfUntil kind course.rest course.net (input_crowd course.net counts) spec ran.rounds
+      (crowd_of course.net ran.crowd)
+  pub last : IsLast course.rest (crowd_of course.net ran.crowd) (open_pair ran.end)
+  pub valid : AreValid course.net ran.crowd
 
 -- a run of this setting was made to this end, and its lines up to `end` follow these
 pub record IsWrittenTo (setting : Setting) (lines written : List ℕ) (crowd : List Word) (end : End) : Type 0 where
   pub rounds : List (List Meeting)
-  pub run : IsRunOfSetting setting (record { rounds = rounds; crowd = crowd; end = end })
+  pub run : IsRunOnCourse setting.kind (course_at setting) setting.counts setting.spec
+      (record { rounds = rounds; crowd = crowd; end = end })
   pub text : written ≡ lines ++ text_of (run_lines setting.kind setting.spec rounds)
 
 -- what is given for a run of this setting after these lines
 abbrev pub IsOutputOfSetting : Setting → List ℕ → Output → Type 0
-IsOutputOfSetting s lines output = IsRunOutput s.kind s.spec lines s.checked.net s.checked.pred s.counts output
+IsOutputOfSetting s lines output = IsRunOutput s.kind s.spec lines (course_at s) s.counts output
 
 abbrev pub IsOutputOfRun : PendingRun → Output → Type 0
 IsOutputOfRun run output = IsOutputOfSetting run.setting run.lines output

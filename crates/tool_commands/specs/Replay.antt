@@ -1,7 +1,8 @@
--- What `replay` makes of the lines of its input: a bundle, a crowd line, and a journal of a run of one kind.
+-- What `replay` makes of the lines of its input: a bundle, of which leaves may have goals, a crowd line, and a journal of
+-- a run of one kind.
 use Rattle.std.specs.Prelude.{◌≡◌, ℕ, ◌+◌, List, ◌++◌, length, codes, decimal, Option, Some, None, Result, Ok, Err}
 use Rattle.pop_lines.specs.Lines.{ended}
-use Rattle.pop_net.specs.NetModel.{NetModel, CrowdModel}
+use Rattle.pop_net.specs.NetModel.{CrowdModel}
 use Rattle.pop_net.specs.InputCrowd.{input_crowd}
 use Rattle.pop_words.specs.declared.kind.RunKind.{RunKind}
 use Rattle.pop_words.specs.declared.spec.RunSpec.{RunSpec}
@@ -10,9 +11,8 @@ use Rattle.pop_journal.specs.declared.fault.JournalFault.{JournalFault}
 use Rattle.pop_journal.specs.declared.fault.JournalFault.TheVariants as fault
 use Rattle.pop_journal.specs.declared.journal.Journal.{Journal}
 use Rattle.pop_journal.specs.Form.{Parts, Out, journal_in}
-use Rattle.pop_journal.specs.Expected.{Difference, first_difference, journal_compared}
-use Rattle.cert_json.specs.declared.bundle.Bundle.{Bundle}
-use Rattle.pop_checker.specs.declared.fault.Rejected.{Rejected}
+use Rattle.pop_journal.specs.Expected.{Difference, first_difference, journal_compared_until}
+use Rattle.goal_checker.specs.declared.fault.StableRejected.{StableRejected}
 use Rattle.tool_texts.specs.declared.refusal.Refusal.{Refusal}
 use Rattle.tool_texts.specs.declared.refusal.Refusal.TheVariants as refusal
 use Rattle.tool_texts.specs.declared.output.Output.{Output}
@@ -20,9 +20,11 @@ use Rattle.tool_texts.specs.declared.output.Ending.TheVariants.{Done}
 use Rattle.tool_texts.specs.Steps.{◌>>=◌, After}
 use Rattle.tool_texts.specs.Lines.{two_and_some}
 use Rattle.tool_texts.specs.Differences.{difference_output}
-use Rattle.tool_texts.specs.Rejections.{rejection_output}
+use Rattle.tool_texts.specs.Rejections.{stable_rejection_output}
 use Rattle.tool_commands.specs.declared.replay.TheConstants.{JOURNAL_LINE}
-use Rattle.tool_commands.specs.Bundles.{IsBegunBy, IsJudged}
+use Rattle.tool_commands.specs.declared.bundle.AnyBundle.{AnyBundle}
+use Rattle.tool_commands.specs.StableBundles.{net_of, IsAnyBegunBy, IsAnyJudged}
+use Rattle.tool_commands.specs.Course.{Course, course_of}
 
 -- the line of a journal that holds, with its number of meetings
 abbrev pub holds_text : ℕ → List ℕ
@@ -46,35 +48,31 @@ compared_output meetings None = holds_output meetings
 compared_output meetings (Some difference) = difference_output difference
 
 -- `holds` with the number of meetings, or the first line that isn't the expected one
-abbrev pub journal_output : NetModel → CrowdModel → Journal → Output
-journal_output net start journal =
+abbrev pub journal_output : Course → CrowdModel → Journal → Output
+journal_output course start journal =
     compared_output (length (joined journal.rounds))
-    (first_difference (journal.first + 1) (journal_compared net start journal))
+    (first_difference (journal.first + 1)
+    (journal_compared_until course.rest course.outcome course.net start journal))
 
 -- the same for the journal of these lines, if there is one
-abbrev pub replay_output : RunKind → NetModel → CrowdModel → List (List ℕ) → Result Output Refusal
-replay_output kind net start lines = journal_read kind
-    (journal_in kind (length start) JOURNAL_LINE lines) >>= λ journal. Ok (journal_output net start journal)
+abbrev pub replay_output : RunKind → Course → CrowdModel → List (List ℕ) → Result Output Refusal
+replay_output kind course start lines = journal_read kind
+    (journal_in kind (length start) JOURNAL_LINE lines) >>= λ journal. Ok (journal_output course start journal)
 
--- a valid proof lets its net's journal be replayed from this crowd
-abbrev pub judged_from : RunKind → Bundle → CrowdModel → List (List ℕ) → Option Rejected → Result Output Refusal
-judged_from kind bundle start lines None = replay_output kind bundle.net start lines
-judged_from kind bundle start lines (Some rejected) = Ok (rejection_output rejected)
+-- a valid proof lets its net's journal be replayed from the input crowd
+abbrev pub judged_output : RunKind → AnyBundle → List ℕ → List (List ℕ) → Option StableRejected
+    → Result Output Refusal
+judged_output kind bundle counts lines None =
+    replay_output kind (course_of bundle counts) (input_crowd (net_of bundle) counts) lines
+judged_output kind bundle counts lines (Some rejected) = Ok (stable_rejection_output rejected)
 
-abbrev pub OfBundle : RunKind → List (List ℕ) → Bundle → CrowdModel → Result Output Refusal → Type 0
-OfBundle kind lines bundle start given =
-    (judged : Option Rejected) × IsJudged bundle judged × (given ≡ judged_from kind bundle start lines judged)
-
--- the same from the input crowd
-abbrev pub judged_output : RunKind → Bundle → List ℕ → List (List ℕ) → Option Rejected → Result Output Refusal
-judged_output kind bundle counts lines judged = judged_from kind bundle (input_crowd bundle.net counts) lines judged
-
-abbrev pub OfBegun : RunKind → List (List ℕ) → Bundle × List ℕ → Result Output Refusal → Type 0
+abbrev pub OfBegun : RunKind → List (List ℕ) → AnyBundle × List ℕ → Result Output Refusal → Type 0
 OfBegun kind lines begin given =
-    (judged : Option Rejected) × IsJudged begin.0 judged × (given ≡ judged_output kind begin.0 begin.1 lines judged)
+    (judged : Option StableRejected) × IsAnyJudged begin.0 judged
+    × (given ≡ judged_output kind begin.0 begin.1 lines judged)
 
 abbrev pub OfLines : RunKind → List ℕ × List ℕ × List (List ℕ) → Result Output Refusal → Type 0
-OfLines kind lines given = (begin : Result (Bundle × List ℕ) Refusal) × IsBegunBy lines.0 lines.1 begin
+OfLines kind lines given = (begin : Result (AnyBundle × List ℕ) Refusal) × IsAnyBegunBy lines.0 lines.1 begin
     × After begin (OfBegun kind lines.2) given
 
 -- what `replay` gives for the lines of its input, for a journal of a run of this kind

@@ -1,35 +1,35 @@
--- What `run` and `watch` make of the lines of their input: a bundle and a crowd line.
-use Rattle.std.specs.Prelude.{◌≡◌, ℕ, Bool, List, length, ◌++◌, Option, Some, None, Result, Ok}
+-- What `run` and `watch` make of the lines of their input: a bundle, of which leaves may have goals, and a crowd line.
+use Rattle.std.specs.Prelude.{◌≡◌, ℕ, List, length, ◌++◌, Option, Some, None, Result, Ok}
 use Rattle.pop_lines.specs.Lines.{ended}
-use Rattle.pres_ast.specs.PredModel.{PredModel}
-use Rattle.pres_ast.specs.PredicateValue.{predicate_value}
-use Rattle.pop_net.specs.NetModel.{NetModel, CrowdModel, number_of_helpers}
+use Rattle.pop_net.specs.NetModel.{CrowdModel, number_of_helpers}
 use Rattle.pop_net.specs.InputCrowd.{IsInput, input_crowd}
 use Rattle.pop_crowd.specs.declared.crowd.Meeting.{Meeting}
 use Rattle.pop_words.specs.declared.kind.RunKind.{RunKind}
 use Rattle.pop_words.specs.declared.spec.RunSpec.{RunSpec}
-use Rattle.pair_workers.specs.WatchedRun.{IsRunOf}
+use Rattle.pair_workers.specs.WatchedRun.{IsRunOfUntil}
 use Rattle.pair_workers.specs.declared.alone.End.{End}
 use Rattle.pair_workers.specs.declared.alone.End.TheVariants.{Terminal, Open}
 use Rattle.pop_journal.specs.Journal.{journal_text}
 use Rattle.pop_journal.specs.declared.last.Last.{Last}
 use Rattle.pop_journal.specs.declared.last.Last.TheVariants as last
-use Rattle.cert_json.specs.declared.bundle.Bundle.{Bundle}
-use Rattle.pop_checker.specs.declared.fault.Rejected.{Rejected}
+use Rattle.goal_checker.specs.declared.fault.StableRejected.{StableRejected}
 use Rattle.tool_texts.specs.declared.refusal.Refusal.{Refusal}
 use Rattle.tool_texts.specs.declared.output.Ending.{Ending}
 use Rattle.tool_texts.specs.declared.output.Ending.TheVariants.{Done, Undecided}
 use Rattle.tool_texts.specs.declared.output.Output.{Output}
 use Rattle.tool_texts.specs.Steps.{After}
 use Rattle.tool_texts.specs.Lines.{just_two}
+use Rattle.tool_texts.specs.Rejections.{stable_rejection_output}
+use Rattle.tool_commands.specs.declared.bundle.AnyBundle.{AnyBundle}
 use Rattle.tool_commands.specs.Play.{IsLast}
-use Rattle.tool_texts.specs.Rejections.{rejection_output}
-use Rattle.tool_commands.specs.Bundles.{IsBegunBy, IsJudged}
+use Rattle.tool_commands.specs.StableBundles.{IsAnyBegunBy, IsAnyJudged}
+use Rattle.tool_commands.specs.Course.{Course, course_of}
 
--- the journal's last line: the predicate's value if the crowd is terminal, else the least pair that changes a tuple
-abbrev pub journal_end : Bool → Option (ℕ × ℕ) → Last
-journal_end value None = last.Verdict value
-journal_end value (Some (a, b)) = last.Undecided a b
+-- the journal's last line: the one that is told of such an end if no pair is left, else the least pair that changes a
+-- tuple
+abbrev pub journal_end : Last → Option (ℕ × ℕ) → Last
+journal_end told None = told
+journal_end told (Some (a, b)) = last.Undecided a b
 
 abbrev pub run_ending : Option (ℕ × ℕ) → Ending
 run_ending None = Done
@@ -40,32 +40,32 @@ abbrev pub open_pair : End → Option (ℕ × ℕ)
 open_pair Terminal = None
 open_pair (Open a b) = Some (a, b)
 
--- the input lines, and the journal of a run of this kind of the net from the input crowd
-pub record IsRunOutput (kind : RunKind) (spec : RunSpec) (lines : List ℕ) (net : NetModel) (pred : PredModel)
-    (counts : List ℕ) (output : Output) : Type 0 where
-  pub input : IsInput (length net.variables) (number_of_helpers net) counts
+-- the input lines, and the journal of a run of this kind on this course from the input crowd
+pub record IsRunOutput (kind : RunKind) (spec : RunSpec) (lines : List ℕ) (course : Course) (counts : List ℕ)
+    (output : Output) : Type 0 where
+  pub input : IsInput (length course.net.variables) (number_of_helpers course.net) counts
   pub rounds : List (List Meeting)
   pub end : CrowdModel
-  pub run : IsRunOf kind net (input_crowd net counts) spec rounds end
+  pub run : IsRunOfUntil kind course.rest course.net (input_crowd course.net counts) spec rounds end
   pub pair : Option (ℕ × ℕ)
-  pub last : IsLast net end pair
-  pub text : output.text ≡ lines
-      ++ journal_text kind net spec rounds end (journal_end (predicate_value pred.tree counts) pair)
+  pub last : IsLast course.rest end pair
+  pub text : output.text ≡ lines ++ journal_text kind course.net spec rounds end (journal_end course.told pair)
   pub ending : output.ending ≡ run_ending pair
 
 -- a valid proof lets its net run
-abbrev pub OfJudged : RunKind → RunSpec → List ℕ → Bundle → List ℕ → Option Rejected → Output → Type 0
-OfJudged kind spec lines bundle counts None output = IsRunOutput kind spec lines bundle.net bundle.pred counts output
-OfJudged kind spec lines bundle counts (Some rejected) output = output ≡ rejection_output rejected
+abbrev pub OfJudged : RunKind → RunSpec → List ℕ → AnyBundle → List ℕ → Option StableRejected → Output → Type 0
+OfJudged kind spec lines bundle counts None output =
+    IsRunOutput kind spec lines (course_of bundle counts) counts output
+OfJudged kind spec lines bundle counts (Some rejected) output = output ≡ stable_rejection_output rejected
 
-abbrev pub OfBegun : RunKind → RunSpec → List ℕ → Bundle × List ℕ → Result Output Refusal → Type 0
+abbrev pub OfBegun : RunKind → RunSpec → List ℕ → AnyBundle × List ℕ → Result Output Refusal → Type 0
 OfBegun kind spec lines begin given =
-    (judged : Option Rejected) × (output : Output) × IsJudged begin.0 judged
+    (judged : Option StableRejected) × (output : Output) × IsAnyJudged begin.0 judged
     × OfJudged kind spec lines begin.0 begin.1 judged output × (given ≡ Ok output)
 
 abbrev pub OfLines : RunKind → RunSpec → List ℕ × List ℕ → Result Output Refusal → Type 0
 OfLines kind spec lines given =
-    (begin : Result (Bundle × List ℕ) Refusal) × IsBegunBy lines.0 lines.1 begin
+    (begin : Result (AnyBundle × List ℕ) Refusal) × IsAnyBegunBy lines.0 lines.1 begin
     × After begin (OfBegun kind spec (ended lines.0 ++ ended lines.1)) given
 
 -- what the command that makes a run of this kind gives for the lines of its input

@@ -1,13 +1,13 @@
 -- What `settle` makes of the lines of its input: a bundle, of which leaves may have goals, and a crowd line.
 use Rattle.std.specs.Prelude.{◌≡◌, ℕ, ◌*◌, Bool, nat_lt, List, ◌++◌, length, map, codes, decimal, MatchBool, Option}
-use Rattle.std.specs.Prelude.{Some, None, Result, Ok, Err, if◌then◌else◌}
+use Rattle.std.specs.Prelude.{Some, None, Result, Ok, Err}
 use Rattle.pop_lines.specs.Lines.{ended}
 use Rattle.pres_ast.specs.PredicateValue.{predicate_value}
 use Rattle.pop_net.specs.NetModel.{NetModel, CrowdModel, number_of_helpers}
 use Rattle.pop_net.specs.InputCrowd.{IsInput, input_crowd}
 use Rattle.pop_crowd.specs.Tally.{crowd_lines}
 use Rattle.pop_journal.specs.Journal.{last_line, text_of}
-use Rattle.pop_journal.specs.declared.last.Last.TheVariants.{Verdict}
+use Rattle.pop_journal.specs.declared.last.Last.TheVariants.{Verdict, Settled}
 use Rattle.cert_base.specs.ProofBound.{proof_bound}
 use Rattle.cert_json.specs.declared.bundle.Bundle.{Bundle}
 use Rattle.pop_settle.specs.declared.limits.TheConstants.{TAKE_LIMIT}
@@ -68,13 +68,9 @@ OfJudged bundle counts (Some rejected) given = given ≡ Ok (rejection_output re
 abbrev pub OfBegun : Bundle × List ℕ → Result Output Refusal → Type 0
 OfBegun begin given = (judged : Option Rejected) × IsJudged begin.0 judged × OfJudged begin.0 begin.1 judged given
 
--- the line that ends the settlement of a bundle with goals
-abbrev pub settled_line : Bool → List ℕ
-settled_line value = if value then codes "settled true" else codes "settled false"
-
 -- the takes, the lines of the last crowd, and the value that every agent outputs for ever
 abbrev pub goals_text : NetModel → List Take → CrowdModel → Bool → List ℕ
-goals_text net takes end value = takes_text net takes end ++ ended (settled_line value)
+goals_text net takes end value = takes_text net takes end ++ ended (last_line (Settled value))
 
 abbrev pub goals_output : StableBundle → List ℕ → List Take → CrowdModel → Output
 goals_output bundle counts takes end =

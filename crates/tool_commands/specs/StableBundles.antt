@@ -7,6 +7,7 @@ use Rattle.goal_json.specs.StableFile.{has_goals}
 use Rattle.goal_json.specs.Bundles.{stable_bundle_at}
 use Rattle.goal_json.specs.declared.bundle.StableBundle.{StableBundle}
 use Rattle.goal_checker.specs.declared.fault.StableRejected.{StableRejected}
+use Rattle.goal_checker.specs.declared.fault.StableRejected.TheVariants as rejected
 use Rattle.goal_checker.specs.ValidStable.{ValidStableProof}
 use Rattle.goal_checker.specs.Rejections.{IsStableRejected}
 use Rattle.tool_texts.specs.declared.refusal.Refusal.{Refusal}
@@ -16,7 +17,7 @@ use Rattle.tool_texts.specs.Json.{HasValue}
 use Rattle.tool_commands.specs.declared.bundle.AnyBundle.{AnyBundle}
 use Rattle.tool_commands.specs.declared.bundle.AnyBundle.TheVariants.{Plain, Stable}
 use Rattle.tool_commands.specs.Start.{formatted, fitting_in}
-use Rattle.tool_commands.specs.Bundles.{bundle_in, IsBundleWithin}
+use Rattle.tool_commands.specs.Bundles.{bundle_in, IsBundleWithin, IsJudged}
 
 -- the bundle with goals that this value is the file of
 abbrev pub stable_in : Data → Result StableBundle Refusal
@@ -69,3 +70,9 @@ IsAnyBundleWithin (Stable bundle) = IsStableBundleWithin bundle
 abbrev pub IsStableJudged : StableBundle → Option StableRejected → Type 0
 IsStableJudged bundle None = ValidStableProof bundle.net bundle.pred bundle.proof
 IsStableJudged bundle (Some rejected) = IsStableRejected bundle.net bundle.pred bundle.proof rejected
+
+abbrev pub IsAnyJudged : AnyBundle → Option StableRejected → Type 0
+IsAnyJudged (Plain bundle) None = IsJudged bundle None
+IsAnyJudged (Plain bundle) (Some (rejected.Plain part)) = IsJudged bundle (Some part)
+IsAnyJudged (Plain bundle) (Some (rejected.Goal leaf value why)) = ⊥
+IsAnyJudged (Stable bundle) judged = IsStableJudged bundle judged

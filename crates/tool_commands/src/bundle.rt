@@ -8,7 +8,7 @@ ghost use Rattle.cert_base.specs.ProofBound.{proof_bound};
 ghost use Rattle.pop_checker.specs.Rejections.{IsRejected};
 ghost use Rattle.tool_texts.specs.Steps.{GivesStep, Obeys};
 ghost use Rattle.tool_commands.specs.Start.{IsStart};
-ghost use Rattle.tool_commands.specs.Bundles.{bundle_in, begun, IsBundleWithin, IsBundleOf, IsBegunBy, TellsRejection};
+ghost use Rattle.tool_commands.specs.Bundles.{bundle_in, IsBundleWithin, IsBundleOf, TellsRejection};
 ghost use Rattle.tool_commands.specs.StableBundles.{stable_in, any_bundle_in, IsStableBundleWithin, IsAnyBundleWithin};
 ghost use Rattle.tool_commands.specs.StableBundles.{IsAnyBundleOf, net_of, any_begun, IsAnyBegunBy};
 
@@ -99,33 +99,6 @@ pub(crate) fn bundle_of_line(alloc: Global, line: &[u8]) -> Result<Bundle, Stop>
 {
     let value = value_of(alloc, line)?;
     bundle_of_value(alloc, &value)
-}
-
-/// The bundle of a line that has this value, and how its net starts at a crowd line.
-#[tactic(auto, unfolding(crate::specs::Bundles::begun))]
-fn bundle_and_start(
-    alloc: Global,
-    value: &Option<Value>,
-    crowd: &[u8],
-) -> Result<(Bundle, Start), Stop>
-    ensures begun { GivesStep
-        (λ begin. (begin.0, begin.1.counts)) result (begun (option_map view value.now) crowd.now) }
-    ensures limits { IfOk result (λ begin. IsBundleWithin begin.0) }
-    ensures start { IfOk result (λ begin. IsStart begin.0.net begin.1) }
-{
-    let bundle = bundle_of_value(alloc, value)?;
-    let start = start_of(alloc, &bundle.net, crowd)?;
-    Ok((bundle, start))
-}
-
-/// The bundle of the first line, and how its net starts at the second. The first line's value is dropped.
-pub(crate) fn begin(alloc: Global, lines: (&[u8], &[u8])) -> Result<(Bundle, Start), Stop>
-    ensures begun { Obeys (IsBegunBy lines.entry.0.now lines.entry.1.now) (λ begin. (begin.0, begin.1.counts)) result }
-    ensures limits { IfOk result (λ begin. IsBundleWithin begin.0) }
-    ensures start { IfOk result (λ begin. IsStart begin.0.net begin.1) }
-{
-    let value = value_of(alloc, lines.0)?;
-    bundle_and_start(alloc, &value, lines.1)
 }
 
 /// The bundle of a line that has this value, with goals or without, and how its net starts at a crowd line.

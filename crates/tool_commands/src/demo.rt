@@ -176,7 +176,8 @@ fn case_output(alloc: Global, case: &Case, run: &RunEnd) -> Result<Output, NoMem
     ensures { IfOk result (IsDemoOutput case.now.number) }
 {
     let counts = case.counts.as_slice();
-    let (last, ending) = last_and_ending(&case.checked, counts, &run.crowd, run.end);
+    let told = Last::Verdict(case.checked.pred().eval(counts));
+    let (last, ending) = last_and_ending(told, run.end);
     let text = summary_of(alloc, case, run, last)?;
     Ok(Output::new(text, ending))
 }

@@ -1,7 +1,7 @@
 //! What a command prepares.
 
 use crate::demo::PendingDemo;
-use pop_checker::Checked;
+use crate::proved::Proved;
 use pop_crowd::Crowd;
 use pop_io::List;
 use pop_words::{RunKind, RunSpec};
@@ -12,7 +12,7 @@ use tool_texts::Output;
 pub struct Setting {
     pub kind: RunKind,
     pub spec: RunSpec,
-    pub checked: Checked,
+    pub proved: Proved,
     pub counts: List<u64>,
 }
 

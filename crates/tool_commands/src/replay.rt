@@ -6,18 +6,21 @@ ghost use Rattle.pop_net.specs.Lanes.{crowd_of, AreValid};
 ghost use Rattle.pop_words.specs.Options.{IsWithinLimits};
 ghost use Rattle.pop_journal.specs.Rounds.{AreRoundsOf};
 ghost use Rattle.pop_journal.specs.Form.{journal_in};
+ghost use Rattle.pop_journal.specs.Calls.{CanVerify, IsVerifiedUntil};
 ghost use Rattle.tool_texts.specs.Steps.{GivesStep, Obeys};
-ghost use Rattle.tool_commands.specs.Bundles.{IsBundleWithin};
+ghost use Rattle.tool_commands.specs.Start.{IsStart};
+ghost use Rattle.tool_commands.specs.StableBundles.{IsAnyBundleWithin, net_of};
+ghost use Rattle.tool_commands.specs.Proved.{proved_net, proved_rest, proved_outcome, proved_course, IsProved};
 ghost use Rattle.tool_texts.specs.Differences.{difference_output};
 ghost use Rattle.tool_commands.specs.Replay.{holds_output, journal_read, journal_output, replay_output};
-ghost use Rattle.tool_commands.specs.Replay.{OfBundle, ReplayGives, journal_refusal};
+ghost use Rattle.tool_commands.specs.Replay.{OfBegun, ReplayGives, journal_refusal};
 
-use crate::bundle::{begin, check_bundle, rejection_of};
-use cert_json::Bundle;
+use crate::bundle::{AnyBundle, begin_any};
+use crate::proved::{Proved, prove};
+use crate::start::Start;
 use pop_crowd::Crowd;
 use pop_io::Failure;
-use pop_journal::{Journal, JournalFault, VerifyFault, read_journal, verify};
-use pop_net::Net;
+use pop_journal::{Journal, JournalFault, VerifyFault, read_journal, verify, verify_settled};
 use pop_words::RunKind;
 use std::alloc::Global;
 use tool_texts::{Ending, Output, Refusal, Stop, two_and_some_lines};
@@ -65,15 +68,47 @@ fn journal_of(alloc: Global, kind: RunKind, text: &[u8], agents: u32) -> Result<
     }
 }
 
+/// The number of meetings of a journal of such a net's run that holds.
+fn verified(
+    alloc: Global,
+    proved: &Proved,
+    counts: &[u64],
+    crowd: Crowd,
+    journal: &Journal,
+) -> Result<u64, Failure<VerifyFault>>
+    requires proved { IsProved proved.now }
+    requires counts { length counts.now ≡ length (proved_net proved.now).variables }
+    requires can { CanVerify (proved_net proved.now) crowd journal.now }
+    ensures { IsVerifiedUntil (proved_rest proved.now) (proved_outcome proved.now counts.now)
+        (proved_net proved.now) crowd journal.now result }
+{
+    match proved {
+        Proved::Silent(checked) => verify(alloc, checked.net(), crowd, journal),
+        Proved::Stable { net, rest, pred } => {
+            verify_settled(alloc, net, rest, pred.eval(counts), crowd, journal)
+        }
+    }
+}
+
 /// The output for a journal that was read.
-fn compare(alloc: Global, net: &Net, crowd: Crowd, journal: &Journal) -> Result<Output, Stop>
-    requires valid { AreValid net.now crowd }
+fn compare(
+    alloc: Global,
+    proved: &Proved,
+    counts: &[u64],
+    crowd: Crowd,
+    journal: &Journal,
+) -> Result<Output, Stop>
+    requires proved { IsProved proved.now }
+    requires counts { length counts.now ≡ length (proved_net proved.now).variables }
+    requires valid { AreValid (proved_net proved.now) crowd }
     requires first { journal.now.first ≡ JOURNAL_LINE }
     requires limits { IsWithinLimits journal.now.spec }
     requires rounds { AreRoundsOf journal.now.kind journal.now.spec (length crowd) journal.now.rounds }
-    ensures { GivesStep (λ output. output) result (Ok (journal_output net.now (crowd_of net.now crowd) journal.now)) }
+    ensures { GivesStep (λ output. output) result
+        (Ok (journal_output (proved_course proved.now counts.now)
+        (crowd_of (proved_net proved.now) crowd) journal.now)) }
 {
-    match verify(alloc, net, crowd, journal) {
+    match verified(alloc, proved, counts, crowd, journal) {
         Ok(meetings) => holds(alloc, meetings),
         Err(Failure::Fault(VerifyFault::Differs { line, kept, found })) => {
             differs(alloc, line, kept.as_slice(), found.as_slice())
@@ -82,37 +117,44 @@ fn compare(alloc: Global, net: &Net, crowd: Crowd, journal: &Journal) -> Result<
     }
 }
 
-/// The output for a journal's text, for a net from this crowd.
+/// The output for a journal's text, for such a net from this crowd, which has these counts.
 fn replay_from(
     alloc: Global,
     kind: RunKind,
-    net: &Net,
+    proved: &Proved,
+    counts: &[u64],
     crowd: Crowd,
     text: &[u8],
 ) -> Result<Output, Stop>
-    requires { AreValid net.now crowd }
+    requires proved { IsProved proved.now }
+    requires counts { length counts.now ≡ length (proved_net proved.now).variables }
+    requires valid { AreValid (proved_net proved.now) crowd }
     ensures { GivesStep (λ output. output) result
-        (replay_output kind net.now (crowd_of net.now crowd) (lines_of text.now)) }
+        (replay_output kind (proved_course proved.now counts.now)
+        (crowd_of (proved_net proved.now) crowd) (lines_of text.now)) }
 {
     let journal = journal_of(alloc, kind, text, crowd.len())?;
-    compare(alloc, net, crowd, &journal)
+    compare(alloc, proved, counts, crowd, &journal)
 }
 
 /// The output for a journal's text, if the proof of the bundle is valid.
 fn replay_begun(
     alloc: Global,
     kind: RunKind,
-    bundle: Bundle,
-    crowd: Crowd,
+    bundle: AnyBundle,
+    start: Start,
     text: &[u8],
 ) -> Result<Output, Stop>
-    requires limits { IsBundleWithin bundle }
-    requires valid { AreValid bundle.net crowd }
-    ensures { Obeys (OfBundle kind (lines_of text.now) bundle (crowd_of bundle.net crowd)) (λ output. output) result }
+    requires limits { IsAnyBundleWithin bundle }
+    requires start { IsStart (net_of bundle) start }
+    ensures { Obeys (OfBegun kind (lines_of text.now) (bundle, start.counts)) (λ output. output) result }
 {
-    match check_bundle(alloc, bundle) {
-        Ok(checked) => replay_from(alloc, kind, checked.net(), crowd, text),
-        Err(fault) => rejection_of(alloc, fault),
+    let Start { counts, crowd } = start;
+    let counts = counts.as_slice();
+    match prove(alloc, bundle, counts) {
+        Ok(proved) => replay_from(alloc, kind, &proved, counts, crowd, text),
+        Err(Failure::Fault(rejected)) => Ok(Output::of_stable_rejection(alloc, rejected)?),
+        Err(Failure::NoMemory) => Err(Failure::NoMemory),
     }
 }
 
@@ -121,6 +163,6 @@ pub(crate) fn replay(alloc: Global, kind: RunKind, input: &[u8]) -> Result<Outpu
     ensures { Obeys (ReplayGives kind (lines_of input.now)) (λ output. output) result }
 {
     let (first, second, text) = two_and_some_lines(input)?;
-    let (bundle, start) = begin(alloc, (first, second))?;
-    replay_begun(alloc, kind, bundle, start.crowd, text)
+    let (bundle, start) = begin_any(alloc, (first, second))?;
+    replay_begun(alloc, kind, bundle, start, text)
 }

@@ -2,28 +2,21 @@
 
 ghost use Rattle.std.specs.Prelude.{◌≡◌, ◌≤◌, ◌↔◌, ◌++◌, ℕ, List as Items, length, IfOk, IsTrue};
 ghost use Rattle.pop_lines.specs.Lines.{lines_of, ended};
-ghost use Rattle.pres_ast.specs.PredicateValue.{predicate_value};
-ghost use Rattle.pop_net.specs.NetModel.{number_of_helpers};
-ghost use Rattle.pop_net.specs.InputCrowd.{IsInput, input_crowd};
-ghost use Rattle.pop_net.specs.Step.{Step};
-ghost use Rattle.pop_net.specs.Reachable.{Reachable};
-ghost use Rattle.pop_net.specs.Lanes.{crowd_of, AreValid};
 ghost use Rattle.pop_words.specs.declared.kind.RunKind.TheVariants.{Whole};
 ghost use Rattle.pop_words.specs.Kinds.{most_workers_of};
 ghost use Rattle.pop_words.specs.Options.{IsWithinLimits};
-ghost use Rattle.tool_commands.specs.Play.{IsLast};
 ghost use Rattle.tool_commands.specs.Start.{IsStart};
-ghost use Rattle.tool_commands.specs.Bundles.{IsBundleWithin};
+ghost use Rattle.tool_commands.specs.StableBundles.{IsAnyBundleWithin, net_of};
+ghost use Rattle.tool_commands.specs.Proved.{proved_pred};
 ghost use Rattle.tool_commands.specs.Run.{journal_end, run_ending, open_pair, OfBegun, RunGives};
 ghost use Rattle.tool_commands.specs.Prepared.{CanRun, IsWrittenTo, IsOutputOfSetting, IsOutputOfRun};
 ghost use Rattle.tool_commands.specs.Prepared.{NeedsNoThreads, Prepares, IsPending};
 
-use crate::bundle::{begin, check_bundle};
+use crate::bundle::{AnyBundle, begin_any};
 use crate::prepared::{PendingRun, Prepared, Setting};
+use crate::proved::prove;
 use crate::start::Start;
-use cert_json::Bundle;
 use pair_workers::End;
-use pop_checker::Checked;
 use pop_crowd::Crowd;
 use pop_io::{Failure, Gate, List, NoMemory};
 use pop_journal::{Last, push_end, push_run_alone};
@@ -41,28 +34,12 @@ pub(crate) fn is_by_one(spec: &RunSpec) -> bool
     spec.workers == 1
 }
 
-/// The journal's last line for the end of a run from these counts, and how the command ends.
-pub(crate) fn last_and_ending(
-    checked: &Checked,
-    counts: &[u64],
-    crowd: &Crowd,
-    end: End,
-) -> (Last, Ending)
-    requires input { IsInput (length checked.now.net.variables) (number_of_helpers checked.now.net) counts.now }
-    requires valid { AreValid checked.now.net crowd.now }
-    requires reached { Reachable (Step checked.now.net) (input_crowd checked.now.net counts.now)
-        (crowd_of checked.now.net crowd.now) }
-    requires last { IsLast checked.now.net (crowd_of checked.now.net crowd.now) (open_pair end) }
-    ensures { result ≡ (
-      journal_end (predicate_value checked.now.pred.tree counts.now) (open_pair end),
-      run_ending (open_pair end),
-    ) }
+/// The journal's last line for the end of a run, given that of a run that leaves no pair, and how the command ends.
+pub(crate) fn last_and_ending(told: Last, end: End) -> (Last, Ending)
+    ensures { result ≡ (journal_end told (open_pair end), run_ending (open_pair end)) }
 {
     match end {
-        End::Terminal => {
-            let verdict = checked.verdict(counts, crowd);
-            (Last::Verdict(verdict), Ending::Done)
-        }
+        End::Terminal => (told, Ending::Done),
         End::Open(a, b) => (Last::Undecided(a, b), Ending::Undecided),
     }
 }
@@ -86,15 +63,16 @@ fn run_output(
     crowd: &Crowd,
     end: End,
 ) -> Result<Output, NoMemory>
-    requires { (lines : Items ℕ) × IsWrittenTo setting.now lines text.items crowd.now end }
+    requires variables { (proved_pred setting.now.proved).variables ≡ length setting.now.counts }
+    requires written { (lines : Items ℕ) × IsWrittenTo setting.now lines text.items crowd.now end }
     ensures { IfOk result
         (λ output. (lines : Items ℕ) → IsWrittenTo setting.now lines text.items crowd.now end
         → IsOutputOfSetting setting.now lines output) }
 {
     let mut text = text;
-    let counts = setting.counts.as_slice();
-    let (last, ending) = last_and_ending(&setting.checked, counts, crowd, end);
-    push_end(alloc, &mut text, setting.checked.net(), crowd, last)?;
+    let told = setting.proved.last(setting.counts.as_slice());
+    let (last, ending) = last_and_ending(told, end);
+    push_end(alloc, &mut text, setting.proved.net(), crowd, last)?;
     Ok(Output::new(text, ending))
 }
 
@@ -110,9 +88,10 @@ pub fn make_alone<G: Gate>(alloc: Global, run: PendingRun, gate: &G) -> Result<O
         setting,
         crowd,
     } = run;
-    let (net, spec) = (setting.checked.net(), &setting.spec);
+    let (net, rest) = (setting.proved.net(), setting.proved.rest());
+    let spec = &setting.spec;
     let text = lines.into_vec();
-    let (text, last_crowd, end) = push_run_alone(alloc, text, net, crowd, spec, gate)?;
+    let (text, last_crowd, end) = push_run_alone(alloc, text, net, rest, crowd, spec, gate)?;
     run_output(alloc, text, &setting, &last_crowd, end)
 }
 
@@ -131,9 +110,10 @@ pub fn make_on_threads<R: Threads + Wait + Sync, G: Gate>(
         setting,
         crowd,
     } = run;
-    let (net, spec) = (setting.checked.net(), &setting.spec);
+    let (net, rest) = (setting.proved.net(), setting.proved.rest());
+    let (kind, spec) = (setting.kind, &setting.spec);
     let text = lines.into_vec();
-    let (text, last_crowd, end) = push_run(rt, alloc, text, setting.kind, net, crowd, spec, gate)?;
+    let (text, last_crowd, end) = push_run(rt, alloc, text, kind, net, rest, crowd, spec, gate)?;
     run_output(alloc, text, &setting, &last_crowd, end)
 }
 
@@ -147,7 +127,7 @@ fn pending(run: PendingRun) -> Prepared
     }
 }
 
-/// The run of a checked net that is still to be made.
+/// The run of a net with a valid proof that is still to be made.
 fn pending_of(
     alloc: Global,
     lines: (&[u8], &[u8]),
@@ -175,32 +155,32 @@ fn prepare_begun(
     kind: RunKind,
     spec: RunSpec,
     lines: (&[u8], &[u8]),
-    bundle: Bundle,
+    bundle: AnyBundle,
     start: Start,
 ) -> Result<Prepared, Stop>
     requires spec { IsWithinLimits spec }
     requires workers { spec.workers ≤ most_workers_of kind }
-    requires limits { IsBundleWithin bundle }
-    requires start { IsStart bundle.net start }
+    requires limits { IsAnyBundleWithin bundle }
+    requires start { IsStart (net_of bundle) start }
     ensures leads { Prepares
         (OfBegun kind spec (ended lines.entry.0.now ++ ended lines.entry.1.now) (bundle, start.counts)) result }
     ensures plain { kind ≡ Whole → spec.workers ≡ 1 → IfOk result NeedsNoThreads }
 {
-    match check_bundle(alloc, bundle) {
-        Ok(checked) => {
-            let Start { counts, crowd } = start;
+    let Start { counts, crowd } = start;
+    match prove(alloc, bundle, counts.as_slice()) {
+        Ok(proved) => {
             let setting = Setting {
                 kind,
                 spec,
-                checked,
+                proved,
                 counts,
             };
             let run = pending_of(alloc, lines, setting, crowd)?;
             Ok(run)
         }
-        Err(Failure::Fault(rejected)) => {
-            Ok(Prepared::Text(Output::of_rejection(alloc, rejected)?))
-        }
+        Err(Failure::Fault(rejected)) => Ok(Prepared::Text(Output::of_stable_rejection(
+            alloc, rejected,
+        )?)),
         Err(Failure::NoMemory) => Err(Failure::NoMemory),
     }
 }
@@ -218,6 +198,6 @@ pub(crate) fn prepare_run(
     ensures plain { kind ≡ Whole → spec.workers ≡ 1 → IfOk result NeedsNoThreads }
 {
     let lines = just_two_lines(input)?;
-    let (bundle, start) = begin(alloc, lines)?;
+    let (bundle, start) = begin_any(alloc, lines)?;
     prepare_begun(alloc, kind, spec, lines, bundle, start)
 }

@@ -10,7 +10,7 @@ ghost use Rattle.tool_commands.specs.Start.{IsStart};
 ghost use Rattle.goal_checker.specs.ValidStable.{ValidStableProof};
 ghost use Rattle.tool_commands.specs.Bundles.{IsBundleWithin};
 ghost use Rattle.tool_commands.specs.StableBundles.{IsStableBundleWithin, IsAnyBundleWithin, net_of};
-ghost use Rattle.tool_commands.specs.Settle.{take_line, takes_text, settle_text, settled_line, goals_text};
+ghost use Rattle.tool_commands.specs.Settle.{take_line, takes_text, settle_text, goals_text};
 ghost use Rattle.tool_commands.specs.Settle.{OfJudged, OfBegun, OfGoalsJudged, OfGoalsBegun, OfAnyBegun, SettleGives};
 
 use crate::bundle::{AnyBundle, begin_any, rejection_of};
@@ -119,16 +119,6 @@ fn settle_begun(alloc: Global, bundle: Bundle, counts: &[u64], crowd: Crowd) -> 
     }
 }
 
-fn push_settled_line(text: &mut Vec<u8>, value: bool) -> Result<(), AllocError>
-    ensures { OnOk result (text.new.items ≡ text.old.items ++ ended (settled_line value)) }
-{
-    if value {
-        text.extend_from_slice(b"settled true\n")
-    } else {
-        text.extend_from_slice(b"settled false\n")
-    }
-}
-
 /// The takes, the lines of the last crowd, and the value that every agent outputs for ever.
 fn goals_text(alloc: Global, net: &Net, settled: &Settled, value: bool) -> Result<Vec<u8>, NoMemory>
     requires { AreValid net.now settled.now.crowd }
@@ -136,7 +126,7 @@ fn goals_text(alloc: Global, net: &Net, settled: &Settled, value: bool) -> Resul
         text.items ≡ goals_text net.now settled.now.takes (crowd_of net.now settled.now.crowd) value) }
 {
     let mut text = takes_text(alloc, net, settled)?;
-    push_settled_line(&mut text, value)?;
+    push_last_line(&mut text, Last::Settled(value))?;
     Ok(text)
 }
 

@@ -3,17 +3,16 @@ use Rattle.pres_ast.specs.PredicateValue.{predicate_value}
 use Rattle.pop_net.specs.NetModel.{NetModel, CrowdModel}
 use Rattle.pop_net.specs.Lanes.{crowd_of}
 use Rattle.pop_net.specs.InputCrowd.{input_crowd}
-use Rattle.pop_words.specs.declared.kind.RunKind.TheVariants.{Whole}
 use Rattle.pair_workers.specs.Run.{IsRun}
 use Rattle.pop_journal.specs.Journal.{text_of}
 use Rattle.pop_journal.specs.declared.last.Last.{Last}
+use Rattle.pop_journal.specs.declared.last.Last.TheVariants.{Verdict}
 use Rattle.pop_demo.specs.DemoCase.{demo_tree, demo_counts, demo_spec}
 use Rattle.tool_texts.specs.declared.output.Output.{Output}
 use Rattle.tool_texts.specs.declared.output.Ending.{Ending}
 use Rattle.tool_commands.specs.Play.{IsLast}
 use Rattle.tool_commands.specs.Run.{open_pair, journal_end}
 use Rattle.tool_commands.specs.Demo.{summary_lines}
-use Rattle.tool_commands.proofs.Ran.{run_reaches}
 use Rattle.tool_commands.proofs.demo.case_output.Goals as goal
 
 pub summary_of-requires-clause-agents : goal.summary_of-requires-clause-agents
@@ -23,13 +22,6 @@ summary_of-requires-clause-agents c =
 pub summary_of-requires-clause-few : goal.summary_of-requires-clause-few
 summary_of-requires-clause-few c = c.requires.run.few
 
-pub last_and_ending-last-requires-clause-reached : goal.last_and_ending-last-requires-clause-reached
-last_and_ending-last-requires-clause-reached c =
-    let case = c.args.case.now in
-    let net = case.checked.net in
-    let ran = c.args.run.now in
-    rw c.as_slice-counts.ensures (run_reaches net case.counts c.requires.run.input.two_agents Whole (demo_spec case.number) ran.rounds (crowd_of net ran.crowd) c.requires.run.run)
-
 pub returns : goal.returns
 returns c =
     let case = c.args.case.now in
@@ -38,6 +30,7 @@ returns c =
     let end = crowd_of net ran.crowd in
     let is = c.requires.case in
     let truth : predicate_value case.checked.pred.tree case.counts ≡ predicate_value (demo_tree case.number) (demo_counts case.number) = (λ i. predicate_value (is.pred i).tree (is.counts i)) in
+    let value : c.eval.result ≡ predicate_value (demo_tree case.number) (demo_counts case.number) = (rw (c.pred.ensures.value, c.as_slice-counts.ensures) at c.eval.ensures) ∙ truth in
     let last = c.last_and_ending-last.ensures in record {
       rounds = ran.rounds;
       end = end;
@@ -45,7 +38,7 @@ returns c =
       pair = open_pair ran.end;
       last = subst (λ (n : NetModel). IsLast n end (open_pair ran.end)) is.net c.requires.run.last;
       text = ap (λ (o : Output). o.text) c.new.ensures ∙ c.in_ok-text.ensures
-          ∙ ap (λ (l : Last × Ending). text_of (summary_lines case.number ran.rounds l.0)) (rw c.as_slice-counts.ensures at last)
-          ∙ ap (λ (b : Bool). text_of (summary_lines case.number ran.rounds (journal_end b (open_pair ran.end)))) truth;
+          ∙ ap (λ (l : Last × Ending). text_of (summary_lines case.number ran.rounds l.0)) last
+          ∙ ap (λ (b : Bool). text_of (summary_lines case.number ran.rounds (journal_end (Verdict b) (open_pair ran.end)))) value;
       ending = ap (λ (o : Output). o.ending) c.new.ensures ∙ ap (λ (l : Last × Ending). l.1) last;
     }

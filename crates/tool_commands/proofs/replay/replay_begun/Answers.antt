@@ -1,27 +1,38 @@
-use Rattle.std.proofs.Common.{◌≡◌, Some, None, refl, ap, subst, ◌∙◌}
+use Rattle.std.proofs.Common.{◌≡◌, Ok, Some, None, Result, refl, ap, subst, ◌∙◌}
 use Rattle.pop_lines.specs.Lines.{lines_of}
-use Rattle.pop_net.specs.NetModel.{NetModel}
+use Rattle.pop_net.specs.NetModel.{CrowdModel}
+use Rattle.pop_net.specs.InputCrowd.{input_crowd}
 use Rattle.pop_net.specs.Lanes.{crowd_of}
-use Rattle.pop_checker.specs.CheckedModel.{CheckedModel}
+use Rattle.tool_texts.specs.declared.refusal.Refusal.{Refusal}
 use Rattle.tool_texts.specs.declared.output.Output.{Output}
 use Rattle.tool_texts.specs.Steps.{GivesStep}
 use Rattle.tool_texts.proofs.Goes.{gives_obeys}
-use Rattle.tool_commands.specs.Replay.{replay_output, OfBundle}
-use Rattle.tool_commands.proofs.Rejected.{rejected_obeys}
+use Rattle.tool_commands.specs.StableBundles.{net_of}
+use Rattle.tool_commands.specs.Course.{Course, course_of}
+use Rattle.tool_commands.specs.Proved.{proved_net, proved_course}
+use Rattle.tool_commands.specs.Replay.{replay_output, OfBegun}
+use Rattle.tool_commands.proofs.ProvedBundles.{net_proved, proved_start}
 use Rattle.tool_commands.proofs.replay.replay_begun.Goals as goal
 
 pub returns-in-Ok : goal.returns-in-Ok
 returns-in-Ok c =
     let bundle = c.args.bundle in
-    let crowd = c.args.crowd in
+    let counts = c.args.start.counts in
     let lines = lines_of c.args.text.now in
-    let start = crowd_of bundle.net crowd in
-    let net : c.net.result.now ≡ bundle.net = c.net.ensures ∙ ap (λ (m : CheckedModel). m.net) c.in-Ok.ensures.kept in
-    gives_obeys (OfBundle c.args.kind lines bundle start) (λ (o : Output). o) c.replay_from.result (replay_output c.args.kind bundle.net start lines)
-    (None, c.in-Ok.ensures.valid, refl)
-    (subst (λ (n : NetModel). GivesStep (λ (o : Output). o) c.replay_from.result (replay_output c.args.kind n (crowd_of n crowd) lines)) net c.replay_from.ensures)
+    let start = input_crowd (net_of bundle) counts in
+    let of = rw c.as_slice-counts.ensures at c.in-Ok.ensures.proved in
+    let from = rw c.as_slice-counts.ensures at c.replay_from.ensures in
+    let crowd : crowd_of (proved_net c.in-Ok.proved) c.args.start.crowd ≡ start =
+    (proved_start bundle counts c.in-Ok.proved c.args.start of c.requires.start).crowd
+    ∙ ap (λ n. input_crowd n counts) (net_proved bundle counts c.in-Ok.proved of) in
+    gives_obeys (OfBegun c.args.kind lines (bundle, counts)) (λ (o : Output). o) c.replay_from.result (replay_output c.args.kind (course_of bundle counts) start lines)
+    (None, of.valid, refl)
+    (subst (λ (course : Course). GivesStep (λ (o : Output). o) c.replay_from.result (replay_output c.args.kind course start lines)) of.course
+    (subst (λ (s : CrowdModel). GivesStep (λ (o : Output). o) c.replay_from.result (replay_output c.args.kind (proved_course c.in-Ok.proved counts) s lines)) crowd from))
 
-pub returns-in-Err : goal.returns-in-Err
-returns-in-Err c =
-    let rule = OfBundle c.args.kind (lines_of c.args.text.now) c.args.bundle (crowd_of c.args.bundle.net c.args.crowd) in
-    rejected_obeys c.args.bundle rule (λ rejected is. (Some rejected, is, refl)) c.in-Err.fault c.in-Err.ensures.fault c.rejection_of.result c.rejection_of.ensures
+pub returns-in-Err-Fault : goal.returns-in-Err-Fault
+returns-in-Err-Fault c = (
+  Some c.in-Err-Fault.rejected,
+  rw c.in-Err-Fault.field-0-is at c.in-Err-Fault.ensures.fault,
+  ap (λ (o : Output). (let made : Result Output Refusal = Ok o in made)) (rw c.in-Err-Fault.rejected-is at c.in_ok-of_stable_rejection-in-Err-Fault.ensures),
+)

@@ -6,30 +6,18 @@ use Rattle.pop_journal.proofs.Texts.{journal_ended}
 use Rattle.tool_texts.specs.declared.output.Ending.{Ending}
 use Rattle.tool_texts.specs.declared.output.Output.{Output}
 use Rattle.tool_commands.specs.Run.{open_pair}
-use Rattle.tool_commands.proofs.Ran.{run_reaches}
+use Rattle.tool_commands.specs.Prepared.{course_at}
 use Rattle.tool_commands.proofs.run.run_output.Goals as goal
 
-pub last_and_ending-last-requires : goal.last_and_ending-last-requires
-last_and_ending-last-requires c =
-    let setting = c.args.setting.now in
-    let net = setting.checked.net in
-    let made = c.requires.1 in
-    rw c.as_slice-counts.ensures (record {
-      input = made.run.input;
-      valid = made.run.valid;
-      reached = run_reaches net setting.counts made.run.input.two_agents setting.kind setting.spec made.rounds (crowd_of net c.args.crowd.now) made.run.run;
-      last = made.run.last;
-    })
-
 pub push_end-requires : goal.push_end-requires
-push_end-requires c = rw c.net.ensures c.requires.1.run.valid
+push_end-requires c = rw c.net.ensures c.requires.written.1.run.valid
 
 pub returns : goal.returns
 returns c = λ lines made.
     let setting = c.args.setting.now in
-    let net = setting.checked.net in
+    let net = (course_at setting).net in
     let end = crowd_of net c.args.crowd.now in
-    let last = rw c.as_slice-counts.ensures at c.last_and_ending-last.ensures in
+    let last = rw (c.last-told.ensures, c.as_slice.ensures) at c.last_and_ending-last.ensures in
     let whole = journal_ended setting.kind net setting.spec made.rounds end c.last_and_ending-last.result.0 lines c.args.text.items c.push_end.new.text.items made.text (rw c.net.ensures at c.in_ok-push_end.ensures) in
     record {
       input = made.run.input;
