@@ -22,7 +22,7 @@ use Rattle.tool_texts.specs.Statuses.{status_of}
 use Rattle.tool_texts.specs.Refusals.{output_for}
 use Rattle.tool_commands.specs.Check.{certified_text, stable_text}
 use Rattle.goal_json.specs.declared.bundle.StableBundle.{StableBundle}
-use Rattle.pop_tool.specs.StableHeadline.{IsStableLine, StableSays, IsValidStableLine, SettledSays}
+use Rattle.pop_tool.specs.StableHeadline.{IsStableLine, StableSays, IsValidStableLine, SettledSays, StableRunSays, IsStableHeldInput}
 use Rattle.pop_tool.proofs.StableHeadline.{stable_says, stable_only}
 use Rattle.tool_commands.specs.Replay.{holds_text, holds_output}
 use Rattle.pop_tool.specs.Answer.{InputGives, Answer}
@@ -72,13 +72,14 @@ module _ (words : List (List ℕ)) (input : List ℕ) (output : Output) (answer 
       let a = given Show is in
       subst (λ (o : Output). IsShownLine input o.text) (sym a.2) (show_done input a.0 a.1 (subst (λ (o : Output). status_of o.ending ≡ Done) a.2 done))
 
-  run_headline : (kind : RunKind) (spec : RunSpec) → meaning_of words ≡ Ok (run_command kind spec) → WasRun (status_of output.ending) → RunSays kind spec input output.text (status_of output.ending)
+  run_headline : (kind : RunKind) (spec : RunSpec) → meaning_of words ≡ Ok (run_command kind spec) → WasRun (status_of output.ending)
+      → RunSays kind spec input output.text (status_of output.ending) ⊎ StableRunSays kind spec input output.text (status_of output.ending)
   run_headline kind spec is ran =
       let a = given (run_command kind spec) is in
-      subst (λ (o : Output). RunSays kind spec input o.text (status_of o.ending)) (sym a.2) (run_says kind spec input a.0 a.1 (subst (λ (o : Output). WasRun (status_of o.ending)) a.2 ran))
+      subst (λ (o : Output). RunSays kind spec input o.text (status_of o.ending) ⊎ StableRunSays kind spec input o.text (status_of o.ending)) (sym a.2) (run_says kind spec input a.0 a.1 (subst (λ (o : Output). WasRun (status_of o.ending)) a.2 ran))
 
   replay_headline : (kind : RunKind) → meaning_of words ≡ Ok (replay_command kind) → (k : ℕ)
-      → SaysHolds k output.text (status_of output.ending) ↔ IsHeldInput kind input k
+      → SaysHolds k output.text (status_of output.ending) ↔ (IsHeldInput kind input k ⊎ IsStableHeldInput kind input k)
   replay_headline kind is k =
       let a = given (replay_command kind) is in (
         λ printed. read_held kind input k (replay_only k kind input a.0 a.1 (subst (λ (o : Output). o.text ≡ ended (holds_text k)) a.2 printed.0)),

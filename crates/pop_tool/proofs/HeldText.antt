@@ -1,167 +1,225 @@
 -- A journal that is read and holds is the text of a run, and no other text is.
-use Rattle.std.proofs.Common.{◌≡◌, ℕ, ◌*◌, ◌≤◌, Bool, List, ◌∷◌, ◌++◌, codes, length, Ok, sym, ap, subst, ◌∙◌, arith}
-use Rattle.std.specs.Prelude.{All}
+use Rattle.std.proofs.Common.{◌≡◌, ◌⊎◌, inl, inr, ℕ, ◌*◌, ◌≤◌, List, ◌∷◌, ◌++◌, codes, length, None, Ok, sym, ap, subst, ◌∙◌, arith}
 use Rattle.pop_lines.specs.Lines.{lines_of}
 use Rattle.pres_ast.specs.PredicateValue.{predicate_value}
-use Rattle.pop_net.specs.NetModel.{NetModel, Tuple, CrowdModel, IsTuple, number_of_helpers}
-use Rattle.pop_net.specs.InputCrowd.{IsInput, input_crowd}
-use Rattle.pop_net.specs.Step.{Step}
-use Rattle.pop_net.specs.Reachable.{Reachable}
-use Rattle.pop_net.specs.Terminal.{IsTerminal}
-use Rattle.pop_crowd.specs.Replay.{replay}
-use Rattle.pop_crowd.proofs.Reached.{length-replay}
-use Rattle.pop_crowd.specs.Crowds.{input_size}
+use Rattle.pop_net.specs.NetModel.{CrowdModel}
+use Rattle.pop_net.specs.InputCrowd.{input_crowd}
 use Rattle.pop_crowd.specs.declared.crowd.Meeting.{Meeting}
-use Rattle.pop_crowd.specs.declared.limits.TheConstants.{AGENT_LEAST, AGENT_LIMIT}
-use Rattle.terminal_test.specs.Agreement.{AllOutput}
+use Rattle.pop_crowd.specs.declared.limits.TheConstants.{AGENT_LIMIT}
 use Rattle.pop_words.specs.declared.kind.RunKind.{RunKind}
 use Rattle.pop_words.specs.declared.spec.RunSpec.{RunSpec}
 use Rattle.pop_words.specs.declared.spec.TheConstants.{MEETING_LIMIT}
 use Rattle.pop_words.specs.Kinds.{most_workers_of}
 use Rattle.pop_words.specs.Options.{IsWithinLimits}
 use Rattle.pair_workers.specs.Run.{joined}
-use Rattle.pair_workers.specs.WatchedRun.{IsRunOf}
+use Rattle.pair_workers.specs.WatchedRun.{IsRunOfUntil}
 use Rattle.pop_journal.specs.declared.last.Last.{Last}
 use Rattle.pop_journal.specs.Journal.{run_line, round_lines, journal_text}
-use Rattle.pop_journal.specs.Ending.{ending_of}
-use Rattle.pop_journal.specs.Expected.{whole_tail, Holds}
+use Rattle.pop_journal.specs.Ending.{ending_until}
+use Rattle.pop_journal.specs.Expected.{whole_tail_until, HoldsUntil}
 use Rattle.pop_journal.specs.Form.{journal_in}
-use Rattle.pop_journal.specs.Laws.{IsRunReadBack}
+use Rattle.pop_journal.specs.Laws.{IsRunReadBackUntil}
 use Rattle.pop_journal.specs.Rounds.{AreRoundsOf}
-use Rattle.pop_journal.proofs.RunKinds.{is_watched}
-use Rattle.pop_journal.proofs.Written.{journal_form, written_is_held, cut}
-use Rattle.cert_json.specs.declared.bundle.Bundle.{Bundle}
-use Rattle.cert_base.specs.ProofBound.{proof_bound}
-use Rattle.pop_checker.specs.Computes.{Computes}
-use Rattle.tool_commands.specs.Bundles.{IsBegunBy}
+use Rattle.pop_journal.proofs.Written.{journal_form, written_is_held_until, cut_until}
+use Rattle.tool_commands.specs.declared.bundle.AnyBundle.{AnyBundle}
+use Rattle.tool_commands.specs.declared.bundle.AnyBundle.TheVariants.{Plain, Stable}
+use Rattle.tool_commands.specs.StableBundles.{IsAnyBegunBy, IsAnyJudged}
+use Rattle.tool_commands.specs.Course.{Course, course_of}
 use Rattle.tool_commands.specs.declared.replay.TheConstants.{JOURNAL_LINE}
 use Rattle.tool_commands.specs.Replay.{journal_read}
-use Rattle.tool_commands.proofs.Begun.{begun_two}
-use Rattle.tool_commands.proofs.Ran.{run_reaches, run_tuples}
-use Rattle.pop_tool.specs.Headline.{IsBundleInput, HasValidProof, IsLastLine, IsHeldInput}
-use Rattle.pop_tool.proofs.BundleInput.{input_begins, file_computes}
-use Rattle.pop_tool.proofs.CountLengths.{fitting_long}
-use Rattle.pop_tool.proofs.LastLine.{is_last, only_last}
-use Rattle.pop_tool.proofs.ReplayHeadline.{IsReadHeld, least_start, most_start, read_ok}
+use Rattle.pop_io.specs.declared.whole.TheConstants.{INPUT_LIMIT}
+use Rattle.pop_tool.specs.Runs.{IsLastLine, IsAllowedRun}
+use Rattle.pop_tool.specs.Headline.{IsHeldInput}
+use Rattle.pop_tool.specs.StableHeadline.{IsStableHeldInput}
+use Rattle.pop_tool.proofs.BundleInput.{plain_input, stable_input, plain_begins, stable_begins}
+use Rattle.pop_tool.proofs.Courses.{least_start, most_start, run_ends, run_ends_only}
+use Rattle.pop_tool.proofs.ReplayHeadline.{IsReadHeld, read_ok}
 
--- a run of a certified bundle's net from its input crowd
-module _ (kind : RunKind) (first second : List ℕ) (bundle : Bundle) (counts : List ℕ) (input : IsBundleInput first second bundle counts) (valid : HasValidProof bundle)
-    (spec : RunSpec) (rounds : List (List Meeting)) (end : CrowdModel) (run : IsRunOf kind bundle.net (input_crowd bundle.net counts) spec rounds end) where
-  abbrev net : NetModel
-  net = bundle.net
+-- the input is this bundle, whose proof is valid, a crowd line, and the text of a journal of a run with this many meetings
+record IsAnyHeld (kind : RunKind) (input : List ℕ) (meetings : ℕ) (bundle : AnyBundle) : Type 0 where
+  short : length input ≤ INPUT_LIMIT
+  first : List ℕ
+  second : List ℕ
+  counts : List ℕ
+  begins : IsAnyBegunBy first second (Ok (bundle, counts))
+  valid : IsAnyJudged bundle None
+  spec : RunSpec
+  allowed : IsAllowedRun kind spec
+  rounds : List (List Meeting)
+  end : CrowdModel
+  run : IsRunOfUntil kind (course_of bundle counts).rest (course_of bundle counts).net (input_crowd (course_of bundle counts).net counts) spec rounds end
+  last : Last
+  ends : IsLastLine (course_of bundle counts).rest (course_of bundle counts).told end last
+  lines : lines_of input ≡ first ∷ second ∷ lines_of (journal_text kind (course_of bundle counts).net spec rounds end last)
+  all : length (joined rounds) ≡ meetings
+
+module _ (kind : RunKind) (input : List ℕ) (k : ℕ) (held : IsReadHeld kind input k) where
+  abbrev course : Course
+  course = course_of held.bundle held.counts
 
   abbrev start : CrowdModel
-  start = input_crowd net counts
+  start = input_crowd course.net held.counts
 
-  abbrev truth : Bool
-  truth = predicate_value bundle.pred.tree counts
+  is : (journal_in kind (length start) JOURNAL_LINE held.more ≡ Ok (held.journal.spec, (held.journal.rounds, held.journal.tail))) × (kind ≡ held.journal.kind)
+  is =
+      read_ok kind held.first held.second held.bundle held.counts held.begins (journal_in kind (length start) JOURNAL_LINE held.more) held.journal held.read
 
-  begins : IsBegunBy first second (Ok (bundle, counts))
-  begins = input_begins first second bundle counts input
+  few_agents : length start ≤ AGENT_LIMIT
+  few_agents = most_start held.first held.second held.bundle held.counts held.begins
 
-  enough : AGENT_LEAST ≤ input_size net counts
-  enough = begun_two begins.0 second bundle counts (sym begins.2)
+  form : (held.more ≡ run_line kind held.journal.spec ∷ (round_lines 1 held.journal.rounds ++ codes "end" ∷ held.journal.tail)) × IsWithinLimits held.journal.spec × AreRoundsOf kind held.journal.spec (length start) held.journal.rounds × (held.journal.spec.workers ≤ most_workers_of kind) × (held.journal.spec.workers * held.journal.spec.turns ≤ MEETING_LIMIT)
+  form =
+      journal_form kind (length start) JOURNAL_LINE held.more held.journal.spec (held.journal.rounds, held.journal.tail) (omega (arith, few_agents)) is.0
 
-  two : AGENT_LEAST ≤ length start
-  two = least_start kind first second bundle counts begins
+  run : IsRunOfUntil kind course.rest course.net start held.journal.spec held.journal.rounds held.holds.0
+  run =
+      subst (λ (r : RunKind). IsRunOfUntil r course.rest course.net start held.journal.spec held.journal.rounds held.holds.0) (sym is.1) held.holds.1
 
-  is_input : IsInput (length net.variables) (number_of_helpers net) counts
-  is_input = record { one_each = fitting_long net second counts input.fits; two_agents = enough }
+  text : held.more ≡ lines_of (journal_text kind course.net held.journal.spec held.journal.rounds held.holds.0 (ending_until course.rest course.outcome course.net held.holds.0))
+  text =
+      form.0
+      ∙ ap (λ (tail : List (List ℕ)). run_line kind held.journal.spec ∷ (round_lines 1 held.journal.rounds ++ codes "end" ∷ tail)) held.holds.2
+      ∙ sym (cut_until course.rest course.outcome kind course.net start held.journal.spec held.journal.rounds held.holds.0 (least_start held.first held.second held.bundle held.counts held.begins) few_agents form.1 run)
 
-  computes : Computes net bundle.pred.tree (proof_bound bundle.proof)
-  computes = file_computes bundle input.value input.file valid
+  any_held : IsAnyHeld kind input k held.bundle
+  any_held =
+      record {
+        short = held.short;
+        first = held.first;
+        second = held.second;
+        counts = held.counts;
+        begins = held.begins;
+        valid = held.valid;
+        spec = held.journal.spec;
+        allowed = record { each = form.1; workers = form.3; meetings = form.4 };
+        rounds = held.journal.rounds;
+        end = held.holds.0;
+        run = run;
+        last = ending_until course.rest course.outcome course.net held.holds.0;
+        ends = run_ends held.first held.second held.bundle held.counts held.begins held.valid kind held.journal.spec held.journal.rounds held.holds.0 run;
+        lines = held.lines ∙ ap (λ (more : List (List ℕ)). held.first ∷ held.second ∷ more) text;
+        all = held.all;
+      }
 
-  reached : Reachable (Step net) start end
-  reached = run_reaches net counts enough kind spec rounds end run
+module _ (kind : RunKind) (input : List ℕ) (k : ℕ) (bundle : AnyBundle) (held : IsAnyHeld kind input k bundle) where
+  abbrev way : Course
+  way = course_of bundle held.counts
 
-  tuples : All (IsTuple net) end
-  tuples = run_tuples net counts enough kind spec rounds end run
+  abbrev begun : CrowdModel
+  begun = input_crowd way.net held.counts
 
-  some_agent : 1 ≤ length end
-  some_agent =
-      let same : length (replay net (joined rounds) start) ≡ length start = length-replay net (joined rounds) start in
-      let ends : length (replay net (joined rounds) start) ≡ length end = ap (length {A = Tuple}) (is_watched net start spec rounds end kind run).replays in
-      omega (arith, same, ends, two)
+  last : held.last ≡ ending_until way.rest way.outcome way.net held.end
+  last =
+      run_ends_only held.first held.second bundle held.counts held.begins held.valid kind held.spec held.rounds held.end held.run held.last held.ends
 
-  right : IsTerminal (Step net) end → AllOutput net end truth
-  right = (computes counts end is_input reached).right
+  written : IsRunReadBackUntil way.rest way.outcome kind way.net begun held.spec held.rounds held.end JOURNAL_LINE × HoldsUntil way.rest way.outcome way.net begun (record { kind = kind; spec = held.spec; rounds = held.rounds; tail = lines_of (whole_tail_until way.rest way.outcome way.net held.end); first = JOURNAL_LINE })
+  written =
+      written_is_held_until way.rest way.outcome kind way.net begun held.spec held.rounds held.end JOURNAL_LINE (least_start held.first held.second bundle held.counts held.begins) (most_start held.first held.second bundle held.counts held.begins) held.allowed.each held.allowed.workers held.allowed.meetings held.run
 
-  ends_so : IsLastLine net truth end (ending_of net end)
-  ends_so = is_last net end tuples some_agent truth right
+  held_any : IsReadHeld kind input k
+  held_any =
+      record {
+        short = held.short;
+        first = held.first;
+        second = held.second;
+        more = lines_of (journal_text kind way.net held.spec held.rounds held.end (ending_until way.rest way.outcome way.net held.end));
+        lines = held.lines ∙ ap (λ (last : Last). held.first ∷ held.second ∷ lines_of (journal_text kind way.net held.spec held.rounds held.end last)) last;
+        bundle = bundle;
+        counts = held.counts;
+        begins = held.begins;
+        valid = held.valid;
+        journal = record { kind = kind; spec = held.spec; rounds = held.rounds; tail = lines_of (whole_tail_until way.rest way.outcome way.net held.end); first = JOURNAL_LINE };
+        read = ap (journal_read kind) written.0;
+        holds = written.1;
+        all = held.all;
+      }
 
-  ends_only_so : (last : Last) → IsLastLine net truth end last → last ≡ ending_of net end
-  ends_only_so = only_last net end tuples some_agent truth right
+-- ---- a bundle without goals, or one with goals
 
-pub read_held : (kind : RunKind) (input : List ℕ) (k : ℕ) → IsReadHeld kind input k → IsHeldInput kind input k
-read_held kind input k held =
-    record {
-      short = held.short;
-      first = held.first;
-      second = held.second;
-      bundle = held.bundle;
-      counts = held.counts;
-      begins = held.begins;
-      valid = held.valid;
-      spec = held.journal.spec;
-      allowed = record { each = form.1; workers = form.3; meetings = form.4 };
-      rounds = held.journal.rounds;
-      end = held.holds.0;
-      run = run;
-      last = ending_of held.bundle.net held.holds.0;
-      ends = ends_so kind held.first held.second held.bundle held.counts held.begins held.valid held.journal.spec held.journal.rounds held.holds.0 run;
-      lines = held.lines ∙ ap (λ (more : List (List ℕ)). held.first ∷ held.second ∷ more) text;
-      all = held.all;
-    }
-  where
-    begun : IsBegunBy held.first held.second (Ok (held.bundle, held.counts))
-    begun = input_begins held.first held.second held.bundle held.counts held.begins
+module _ (kind : RunKind) (input : List ℕ) (k : ℕ) where
+  of_any : (bundle : AnyBundle) → IsAnyHeld kind input k bundle → IsHeldInput kind input k ⊎ IsStableHeldInput kind input k
+  of_any (Plain bundle) held =
+      inl (record {
+        short = held.short;
+        first = held.first;
+        second = held.second;
+        bundle = bundle;
+        counts = held.counts;
+        begins = plain_input held.first held.second bundle held.counts held.begins;
+        valid = held.valid;
+        spec = held.spec;
+        allowed = held.allowed;
+        rounds = held.rounds;
+        end = held.end;
+        run = held.run;
+        last = held.last;
+        ends = held.ends;
+        lines = held.lines;
+        all = held.all;
+      })
+  of_any (Stable bundle) held =
+      inr (record {
+        short = held.short;
+        first = held.first;
+        second = held.second;
+        bundle = bundle;
+        counts = held.counts;
+        begins = stable_input held.first held.second bundle held.counts held.begins;
+        valid = held.valid;
+        spec = held.spec;
+        allowed = held.allowed;
+        rounds = held.rounds;
+        end = held.end;
+        run = held.run;
+        last = held.last;
+        ends = held.ends;
+        lines = held.lines;
+        all = held.all;
+      })
 
-    is : (journal_in kind (length (input_crowd held.bundle.net held.counts)) JOURNAL_LINE held.more ≡ Ok (held.journal.spec, (held.journal.rounds, held.journal.tail))) × (kind ≡ held.journal.kind)
-    is =
-        read_ok kind held.first held.second held.bundle held.counts begun (journal_in kind (length (input_crowd held.bundle.net held.counts)) JOURNAL_LINE held.more) held.journal held.read
+  from_plain : (held : IsHeldInput kind input k) → IsAnyHeld kind input k (Plain held.bundle)
+  from_plain held =
+      record {
+        short = held.short;
+        first = held.first;
+        second = held.second;
+        counts = held.counts;
+        begins = plain_begins held.first held.second held.bundle held.counts held.begins;
+        valid = held.valid;
+        spec = held.spec;
+        allowed = held.allowed;
+        rounds = held.rounds;
+        end = held.end;
+        run = held.run;
+        last = held.last;
+        ends = held.ends;
+        lines = held.lines;
+        all = held.all;
+      }
 
-    few_agents : length (input_crowd held.bundle.net held.counts) ≤ AGENT_LIMIT
-    few_agents = most_start kind held.first held.second held.bundle held.counts begun
+  from_stable : (held : IsStableHeldInput kind input k) → IsAnyHeld kind input k (Stable held.bundle)
+  from_stable held =
+      record {
+        short = held.short;
+        first = held.first;
+        second = held.second;
+        counts = held.counts;
+        begins = stable_begins held.first held.second held.bundle held.counts held.begins;
+        valid = held.valid;
+        spec = held.spec;
+        allowed = held.allowed;
+        rounds = held.rounds;
+        end = held.end;
+        run = held.run;
+        last = held.last;
+        ends = held.ends;
+        lines = held.lines;
+        all = held.all;
+      }
 
-    form : (held.more ≡ run_line kind held.journal.spec ∷ (round_lines 1 held.journal.rounds ++ codes "end" ∷ held.journal.tail)) × IsWithinLimits held.journal.spec × AreRoundsOf kind held.journal.spec (length (input_crowd held.bundle.net held.counts)) held.journal.rounds × (held.journal.spec.workers ≤ most_workers_of kind) × (held.journal.spec.workers * held.journal.spec.turns ≤ MEETING_LIMIT)
-    form =
-        journal_form kind (length (input_crowd held.bundle.net held.counts)) JOURNAL_LINE held.more held.journal.spec (held.journal.rounds, held.journal.tail) (omega (arith, few_agents)) is.0
+  pub read_held : IsReadHeld kind input k → IsHeldInput kind input k ⊎ IsStableHeldInput kind input k
+  read_held held = of_any held.bundle (any_held kind input k held)
 
-    run : IsRunOf kind held.bundle.net (input_crowd held.bundle.net held.counts) held.journal.spec held.journal.rounds held.holds.0
-    run =
-        subst (λ (r : RunKind). IsRunOf r held.bundle.net (input_crowd held.bundle.net held.counts) held.journal.spec held.journal.rounds held.holds.0) (sym is.1) held.holds.1
-
-    text : held.more ≡ lines_of (journal_text kind held.bundle.net held.journal.spec held.journal.rounds held.holds.0 (ending_of held.bundle.net held.holds.0))
-    text =
-        form.0
-        ∙ ap (λ (tail : List (List ℕ)). run_line kind held.journal.spec ∷ (round_lines 1 held.journal.rounds ++ codes "end" ∷ tail)) held.holds.2
-        ∙ sym (cut kind held.bundle.net (input_crowd held.bundle.net held.counts) held.journal.spec held.journal.rounds held.holds.0 (least_start kind held.first held.second held.bundle held.counts begun) few_agents form.1 run)
-
-pub held_read : (kind : RunKind) (input : List ℕ) (k : ℕ) → IsHeldInput kind input k → IsReadHeld kind input k
-held_read kind input k held =
-    record {
-      short = held.short;
-      first = held.first;
-      second = held.second;
-      more = lines_of (journal_text kind held.bundle.net held.spec held.rounds held.end (ending_of held.bundle.net held.end));
-      lines = held.lines ∙ ap (λ (last : Last). held.first ∷ held.second ∷ lines_of (journal_text kind held.bundle.net held.spec held.rounds held.end last)) last;
-      bundle = held.bundle;
-      counts = held.counts;
-      begins = held.begins;
-      valid = held.valid;
-      journal = record { kind = kind; spec = held.spec; rounds = held.rounds; tail = lines_of (whole_tail held.bundle.net held.end); first = JOURNAL_LINE };
-      read = ap (journal_read kind) written.0;
-      holds = written.1;
-      all = held.all;
-    }
-  where
-    begun : IsBegunBy held.first held.second (Ok (held.bundle, held.counts))
-    begun = input_begins held.first held.second held.bundle held.counts held.begins
-
-    last : held.last ≡ ending_of held.bundle.net held.end
-    last =
-        ends_only_so kind held.first held.second held.bundle held.counts held.begins held.valid held.spec held.rounds held.end held.run held.last held.ends
-
-    written : IsRunReadBack kind held.bundle.net (input_crowd held.bundle.net held.counts) held.spec held.rounds held.end JOURNAL_LINE × Holds held.bundle.net (input_crowd held.bundle.net held.counts) (record { kind = kind; spec = held.spec; rounds = held.rounds; tail = lines_of (whole_tail held.bundle.net held.end); first = JOURNAL_LINE })
-    written =
-        written_is_held kind held.bundle.net (input_crowd held.bundle.net held.counts) held.spec held.rounds held.end JOURNAL_LINE (least_start kind held.first held.second held.bundle held.counts begun) (most_start kind held.first held.second held.bundle held.counts begun) held.allowed.each held.allowed.workers held.allowed.meetings held.run
+  pub held_read : IsHeldInput kind input k ⊎ IsStableHeldInput kind input k → IsReadHeld kind input k
+  held_read (inl held) = held_any kind input k (Plain held.bundle) (from_plain held)
+  held_read (inr held) = held_any kind input k (Stable held.bundle) (from_stable held)

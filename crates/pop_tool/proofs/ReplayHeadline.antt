@@ -18,12 +18,10 @@ use Rattle.pair_workers.specs.Run.{joined}
 use Rattle.pop_journal.specs.declared.journal.Journal.{Journal}
 use Rattle.pop_journal.specs.Rounds.{AreRoundsOf}
 use Rattle.pop_journal.specs.Form.{Parts, Out, journal_in}
-use Rattle.pop_journal.specs.Expected.{Difference, first_difference, journal_compared, Holds}
+use Rattle.pop_journal.specs.Expected.{Difference, first_difference, journal_compared_until, HoldsUntil}
 use Rattle.pop_journal.proofs.Written.{journal_form, few_meetings}
-use Rattle.pop_journal.proofs.Verdicts.{none_held, held_none}
-use Rattle.cert_json.specs.declared.bundle.Bundle.{Bundle}
-use Rattle.pop_checker.specs.declared.fault.Rejected.{Rejected}
-use Rattle.pop_checker.proofs.OneFault.{none_rejected}
+use Rattle.pop_journal.proofs.Verdicts.{none_held_until, held_none_until}
+use Rattle.goal_checker.specs.declared.fault.StableRejected.{StableRejected}
 use Rattle.tool_texts.specs.declared.refusal.Refusal.{Refusal}
 use Rattle.tool_texts.specs.declared.refusal.Refusal.TheVariants.{TooLong}
 use Rattle.tool_texts.specs.declared.output.Output.{Output}
@@ -31,18 +29,17 @@ use Rattle.tool_texts.specs.Steps.{◌>>=◌, After}
 use Rattle.tool_texts.specs.Lines.{two_and_some}
 use Rattle.tool_texts.specs.Differences.{difference_text}
 use Rattle.tool_texts.specs.Refusals.{refusal_text, output_for}
-use Rattle.tool_texts.specs.Rejections.{rejected_text}
+use Rattle.tool_texts.specs.Rejections.{stable_rejected_text}
 use Rattle.tool_commands.specs.declared.replay.TheConstants.{JOURNAL_LINE}
-use Rattle.tool_commands.specs.Bundles.{IsBegunBy, IsJudged}
+use Rattle.tool_commands.specs.declared.bundle.AnyBundle.{AnyBundle}
+use Rattle.tool_commands.specs.StableBundles.{IsAnyBegunBy, IsAnyJudged}
+use Rattle.tool_commands.specs.Course.{Course, course_of}
 use Rattle.tool_commands.specs.Replay.{holds_text, holds_output, journal_read, compared_output, journal_output, replay_output, judged_output, OfBegun, OfLines, ReplayGives}
-use Rattle.tool_commands.proofs.OneCheck.{one_begin}
-use Rattle.tool_commands.proofs.InputSize.{length-input_crowd}
-use Rattle.tool_commands.proofs.Begun.{begun_two, begun_few}
+use Rattle.tool_commands.proofs.OneCheck.{one_any_judged, one_any_begin}
 use Rattle.pop_tool.specs.Answer.{InputGives}
-use Rattle.pop_tool.specs.Headline.{IsBundleInput, HasValidProof}
 use Rattle.pop_tool.proofs.Decimals.{one_decimal}
-use Rattle.pop_tool.proofs.BundleInput.{begins_input, input_begins}
-use Rattle.pop_tool.proofs.FirstBytes.{first_byte, refusal_begins, rejection_begins, difference_begins}
+use Rattle.pop_tool.proofs.Courses.{least_start, most_start, course_lanes}
+use Rattle.pop_tool.proofs.FirstBytes.{first_byte, refusal_begins, stable_rejection_begins, difference_begins}
 
 -- the input is a bundle whose proof is valid, a crowd line, and a journal that is read and holds
 pub record IsReadHeld (kind : RunKind) (input : List ℕ) (meetings : ℕ) : Type 0 where
@@ -51,13 +48,13 @@ pub record IsReadHeld (kind : RunKind) (input : List ℕ) (meetings : ℕ) : Typ
   pub second : List ℕ
   pub more : List (List ℕ)
   pub lines : lines_of input ≡ first ∷ second ∷ more
-  pub bundle : Bundle
+  pub bundle : AnyBundle
   pub counts : List ℕ
-  pub begins : IsBundleInput first second bundle counts
-  pub valid : HasValidProof bundle
+  pub begins : IsAnyBegunBy first second (Ok (bundle, counts))
+  pub valid : IsAnyJudged bundle None
   pub journal : Journal
-  pub read : journal_read kind (journal_in kind (length (input_crowd bundle.net counts)) JOURNAL_LINE more) ≡ Ok journal
-  pub holds : Holds bundle.net (input_crowd bundle.net counts) journal
+  pub read : journal_read kind (journal_in kind (length (input_crowd (course_of bundle counts).net counts)) JOURNAL_LINE more) ≡ Ok journal
+  pub holds : HoldsUntil (course_of bundle counts).rest (course_of bundle counts).outcome (course_of bundle counts).net (input_crowd (course_of bundle counts).net counts) journal
   pub all : length (joined journal.rounds) ≡ meetings
 
 -- a refusal begins with an f, a rejection with an r, a difference with a d, and `holds` with an h
@@ -65,9 +62,9 @@ not_refusal : (refusal : Refusal) (k : ℕ) → ended (refusal_text refusal) ≡
 unfolding first_byte
 not_refusal refusal k e = let b : 102 ≡ 104 = sym (refusal_begins refusal) ∙ ap first_byte e in absurd (omega (arith, b))
 
-not_rejection : (rejected : Rejected) (k : ℕ) → ended (rejected_text rejected) ≡ ended (holds_text k) → ⊥
+not_rejection : (rejected : StableRejected) (k : ℕ) → ended (stable_rejected_text rejected) ≡ ended (holds_text k) → ⊥
 unfolding first_byte
-not_rejection rejected k e = let b : 114 ≡ 104 = sym (rejection_begins rejected) ∙ ap first_byte e in absurd (omega (arith, b))
+not_rejection rejected k e = let b : 114 ≡ 104 = sym (stable_rejection_begins rejected) ∙ ap first_byte e in absurd (omega (arith, b))
 
 not_difference : (difference : Difference) (k : ℕ) → difference_text difference ≡ ended (holds_text k) → ⊥
 unfolding first_byte
@@ -88,19 +85,18 @@ abbrev Printed : Result Output Refusal → ℕ → Type 0
 Printed given k = (output_for given).text ≡ ended (holds_text k)
 
 -- how a bundle and its counts begin
-module _ (kind : RunKind) (first second : List ℕ) (bundle : Bundle) (counts : List ℕ) (begins : IsBegunBy first second (Ok (bundle, counts))) where
+module _ (kind : RunKind) (first second : List ℕ) (bundle : AnyBundle) (counts : List ℕ) (begins : IsAnyBegunBy first second (Ok (bundle, counts))) where
+  abbrev course : Course
+  course = course_of bundle counts
+
   abbrev start : CrowdModel
-  start = input_crowd bundle.net counts
+  start = input_crowd course.net counts
 
-  pub least_start : AGENT_LEAST ≤ length start
-  least_start =
-      let l = begun_two begins.0 second bundle counts (sym begins.2) in
-      let e = length-input_crowd bundle.net counts in omega (arith, l, e)
+  two : AGENT_LEAST ≤ length start
+  two = least_start first second bundle counts begins
 
-  pub most_start : length start ≤ AGENT_LIMIT
-  most_start =
-      let l = begun_few begins.0 second bundle counts (sym begins.2) in
-      let e = length-input_crowd bundle.net counts in omega (arith, l, e)
+  few : length start ≤ AGENT_LIMIT
+  few = most_start first second bundle counts begins
 
   pub read_ok : (r : Result (RunSpec × Parts) Out) (journal : Journal) → journal_read kind r ≡ Ok journal → (r ≡ Ok (journal.spec, (journal.rounds, journal.tail))) × (kind ≡ journal.kind)
   read_ok (Ok (spec, parts)) journal e =
@@ -113,30 +109,38 @@ module _ (kind : RunKind) (first second : List ℕ) (bundle : Bundle) (counts : 
     formed : IsWithinLimits journal.spec × AreRoundsOf journal.kind journal.spec (length start) journal.rounds
     formed =
         let is = read_ok (journal_in kind (length start) JOURNAL_LINE more) journal read in
-        let form = journal_form kind (length start) JOURNAL_LINE more journal.spec (journal.rounds, journal.tail) (omega (arith, most_start)) is.0 in
+        let form = journal_form kind (length start) JOURNAL_LINE more journal.spec (journal.rounds, journal.tail) (omega (arith, few)) is.0 in
         (form.1, subst (λ (k : RunKind). AreRoundsOf k journal.spec (length start) journal.rounds) is.1 form.2)
 
-    none_differs : Holds bundle.net start journal → first_difference (journal.first + 1) (journal_compared bundle.net start journal) ≡ None
-    none_differs = held_none bundle.net start journal least_start most_start formed.0.workers (input_tuples bundle.net counts) formed.1
+    abbrev Held : Type 0
+    Held = HoldsUntil course.rest course.outcome course.net start journal
 
-    none_is_held : first_difference (journal.first + 1) (journal_compared bundle.net start journal) ≡ None → Holds bundle.net start journal
-    none_is_held = none_held bundle.net start journal least_start most_start formed.0.workers (input_tuples bundle.net counts) formed.1
+    abbrev found_first : Option Difference
+    found_first = first_difference (journal.first + 1) (journal_compared_until course.rest course.outcome course.net start journal)
+
+    none_differs : Held → found_first ≡ None
+    none_differs =
+        held_none_until course.rest course.outcome course.net (course_lanes bundle counts) start journal two few formed.0.workers (input_tuples course.net counts) formed.1
+
+    none_is_held : found_first ≡ None → Held
+    none_is_held =
+        none_held_until course.rest course.outcome course.net (course_lanes bundle counts) start journal two few formed.0.workers (input_tuples course.net counts) formed.1
 
     -- a journal that holds is said to hold
-    pub held_output : Holds bundle.net start journal → replay_output kind bundle.net start more ≡ Ok (holds_output (length (joined journal.rounds)))
+    pub held_output : Held → replay_output kind course start more ≡ Ok (holds_output (length (joined journal.rounds)))
     held_output holds =
-        ap (λ (r : Result Journal Refusal). r >>= λ j. Ok (journal_output bundle.net start j)) read
+        ap (λ (r : Result Journal Refusal). r >>= λ j. Ok (journal_output course start j)) read
         ∙ ap (λ (d : Option Difference). Ok (compared_output (length (joined journal.rounds)) d)) (none_differs holds)
 
-    compared_held : (k : ℕ) → (found : Option Difference) → first_difference (journal.first + 1) (journal_compared bundle.net start journal) ≡ found
-        → (compared_output (length (joined journal.rounds)) found).text ≡ ended (holds_text k) → Holds bundle.net start journal × (length (joined journal.rounds) ≡ k)
+    compared_held : (k : ℕ) → (found : Option Difference) → found_first ≡ found
+        → (compared_output (length (joined journal.rounds)) found).text ≡ ended (holds_text k) → Held × (length (joined journal.rounds) ≡ k)
     compared_held k None is printed =
         (none_is_held is, one_number (length (joined journal.rounds)) k (few_meetings journal.kind journal.spec (length start) journal.rounds formed.0 formed.1) printed)
     compared_held k (Some difference) is printed = absurd (not_difference difference k printed)
 
     -- and no other
-    pub output_held : (k : ℕ) → (journal_output bundle.net start journal).text ≡ ended (holds_text k) → Holds bundle.net start journal × (length (joined journal.rounds) ≡ k)
-    output_held k printed = compared_held k (first_difference (journal.first + 1) (journal_compared bundle.net start journal)) refl printed
+    pub output_held : (k : ℕ) → (journal_output course start journal).text ≡ ended (holds_text k) → Held × (length (joined journal.rounds) ≡ k)
+    output_held k printed = compared_held k found_first refl printed
 
 replay_given : (kind : RunKind) (input : List ℕ) (given : Result Output Refusal) → InputGives (replay_command kind) input given
     → MatchBool (nat_lt INPUT_LIMIT (length input)) (given ≡ Err TooLong) (ReplayGives kind (lines_of input) given)
@@ -152,21 +156,20 @@ some_more : (kind : RunKind) (agents : ℕ) (first second : List ℕ) (more : Li
 some_more kind agents first second [] journal given read of = absurd cc
 some_more kind agents first second (third ∷ more) journal given read of = of
 
-judged_given : (kind : RunKind) (bundle : Bundle) (counts : List ℕ) (lines : List (List ℕ)) (judged : Option Rejected) → IsJudged bundle judged → HasValidProof bundle → judged_output kind bundle counts lines judged ≡ replay_output kind bundle.net (input_crowd bundle.net counts) lines
-judged_given kind bundle counts lines None is valid = refl
-judged_given kind bundle counts lines (Some rejected) is valid = absurd (none_rejected bundle.net bundle.pred bundle.proof rejected valid is)
+judged_given : (kind : RunKind) (bundle : AnyBundle) (counts : List ℕ) (lines : List (List ℕ)) (judged : Option StableRejected) → IsAnyJudged bundle judged → IsAnyJudged bundle None
+    → judged_output kind bundle counts lines judged ≡ replay_output kind (course_of bundle counts) (input_crowd (course_of bundle counts).net counts) lines
+judged_given kind bundle counts lines judged is valid = ap (judged_output kind bundle counts lines) (one_any_judged bundle judged None is valid)
 
 -- a journal that holds is answered with `holds`
 pub held_given : (kind : RunKind) (input : List ℕ) (k : ℕ) → IsReadHeld kind input k → (given : Result Output Refusal) → InputGives (replay_command kind) input given → given ≡ Ok (holds_output k)
 held_given kind input k held given is =
-    let start = input_crowd held.bundle.net held.counts in
+    let start = input_crowd (course_of held.bundle held.counts).net held.counts in
     let lines : After (two_and_some (held.first ∷ held.second ∷ held.more)) (OfLines kind) given = subst (λ (ls : List (List ℕ)). After (two_and_some ls) (OfLines kind) given) held.lines (short_lines kind input given held.short is) in
     let of = some_more kind (length start) held.first held.second held.more held.journal given held.read lines in
-    let begins = input_begins held.first held.second held.bundle held.counts held.begins in
-    let begin = one_begin held.first held.second of.0 (Ok (held.bundle, held.counts)) of.1 begins in
-    let begun : OfBegun kind held.more (held.bundle, held.counts) given = subst (λ (r : Result (Bundle × List ℕ) Refusal). After r (OfBegun kind held.more) given) begin of.2 in
+    let begin = one_any_begin held.first held.second of.0 (Ok (held.bundle, held.counts)) of.1 held.begins in
+    let begun : OfBegun kind held.more (held.bundle, held.counts) given = subst (λ (r : Result (AnyBundle × List ℕ) Refusal). After r (OfBegun kind held.more) given) begin of.2 in
     begun.2 ∙ judged_given kind held.bundle held.counts held.more begun.0 begun.1 held.valid
-    ∙ held_output kind held.first held.second held.bundle held.counts begins held.more held.journal held.read held.holds
+    ∙ held_output kind held.first held.second held.bundle held.counts held.begins held.more held.journal held.read held.holds
     ∙ ap (λ (n : ℕ). Ok (holds_output n)) held.all
 
 module _ (k : ℕ) where
@@ -174,8 +177,8 @@ module _ (k : ℕ) where
   refused refusal given is printed = not_refusal refusal k (subst (λ (g : Result Output Refusal). Printed g k) is printed)
 
   module _ (kind : RunKind) (input first second : List ℕ) (more : List (List ℕ)) (short : length input ≤ INPUT_LIMIT) (lines : lines_of input ≡ first ∷ second ∷ more) where
-    read_only : (bundle : Bundle) (counts : List ℕ) → IsBegunBy first second (Ok (bundle, counts)) → HasValidProof bundle → (r : Result Journal Refusal) → journal_read kind (journal_in kind (length (input_crowd bundle.net counts)) JOURNAL_LINE more) ≡ r
-        → Printed (r >>= λ journal. Ok (journal_output bundle.net (input_crowd bundle.net counts) journal)) k → IsReadHeld kind input k
+    read_only : (bundle : AnyBundle) (counts : List ℕ) → IsAnyBegunBy first second (Ok (bundle, counts)) → IsAnyJudged bundle None → (r : Result Journal Refusal) → journal_read kind (journal_in kind (length (input_crowd (course_of bundle counts).net counts)) JOURNAL_LINE more) ≡ r
+        → Printed (r >>= λ journal. Ok (journal_output (course_of bundle counts) (input_crowd (course_of bundle counts).net counts) journal)) k → IsReadHeld kind input k
     read_only bundle counts begins valid (Err refusal) read printed = absurd (not_refusal refusal k printed)
     read_only bundle counts begins valid (Ok journal) read printed =
         let held = output_held kind first second bundle counts begins more journal read k printed in
@@ -187,7 +190,7 @@ module _ (k : ℕ) where
           lines = lines;
           bundle = bundle;
           counts = counts;
-          begins = begins_input first second bundle counts begins;
+          begins = begins;
           valid = valid;
           journal = journal;
           read = read;
@@ -195,12 +198,12 @@ module _ (k : ℕ) where
           all = held.1;
         }
 
-    judged_only : (bundle : Bundle) (counts : List ℕ) → IsBegunBy first second (Ok (bundle, counts)) → (judged : Option Rejected) → IsJudged bundle judged → Printed (judged_output kind bundle counts more judged) k → IsReadHeld kind input k
+    judged_only : (bundle : AnyBundle) (counts : List ℕ) → IsAnyBegunBy first second (Ok (bundle, counts)) → (judged : Option StableRejected) → IsAnyJudged bundle judged → Printed (judged_output kind bundle counts more judged) k → IsReadHeld kind input k
     judged_only bundle counts begins None is printed =
-        read_only bundle counts begins is (journal_read kind (journal_in kind (length (input_crowd bundle.net counts)) JOURNAL_LINE more)) refl printed
+        read_only bundle counts begins is (journal_read kind (journal_in kind (length (input_crowd (course_of bundle counts).net counts)) JOURNAL_LINE more)) refl printed
     judged_only bundle counts begins (Some rejected) is printed = absurd (not_rejection rejected k printed)
 
-    begun_only : (r : Result (Bundle × List ℕ) Refusal) → IsBegunBy first second r → (given : Result Output Refusal) → After r (OfBegun kind more) given → Printed given k → IsReadHeld kind input k
+    begun_only : (r : Result (AnyBundle × List ℕ) Refusal) → IsAnyBegunBy first second r → (given : Result Output Refusal) → After r (OfBegun kind more) given → Printed given k → IsReadHeld kind input k
     begun_only (Err refusal) begins given of printed = absurd (refused refusal given of printed)
     begun_only (Ok begin) begins given of printed =
         judged_only begin.0 begin.1 begins of.0 of.1 (subst (λ (g : Result Output Refusal). Printed g k) of.2 printed)

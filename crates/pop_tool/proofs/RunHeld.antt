@@ -1,18 +1,13 @@
 -- What a run wrote is a journal that holds.
-use Rattle.std.proofs.Common.{◌≡◌, ◌≢◌, ℕ, ◌*◌, ◌≤◌, ◌==◌, Bool, List, [], ◌∷◌, ◌++◌, length, Option, Some, None, Ok, All, refl, sym, ap, subst, ◌∙◌, arith, append-nil}
+use Rattle.std.proofs.Common.{◌≡◌, ◌≢◌, ℕ, ◌*◌, ◌≤◌, ◌==◌, List, [], ◌∷◌, ◌++◌, length, Ok, All, refl, sym, ap, subst, ◌∙◌, append-nil}
 use Rattle.std.specs.List.{list_any}
 use Rattle.std.proofs.lemmas.Bool.{ne_eqb, or_from}
 use Rattle.std.proofs.lemmas.List.Elements.{All-head, All-tail}
 use Rattle.pop_io.specs.declared.whole.TheConstants.{INPUT_LIMIT}
 use Rattle.pop_lines.specs.Lines.{lines_of, ended}
 use Rattle.pop_lines.proofs.Joined.{lines-joined}
-use Rattle.pres_ast.specs.PredicateValue.{predicate_value}
-use Rattle.pop_net.specs.NetModel.{NetModel, CrowdModel, Tuple}
+use Rattle.pop_net.specs.NetModel.{CrowdModel, IsTuple}
 use Rattle.pop_net.specs.InputCrowd.{input_crowd}
-use Rattle.pop_crowd.specs.Replay.{replay}
-use Rattle.pop_crowd.proofs.Reached.{length-replay}
-use Rattle.pop_crowd.specs.Crowds.{input_size}
-use Rattle.pop_crowd.specs.declared.limits.TheConstants.{AGENT_LEAST, AGENT_LIMIT}
 use Rattle.pop_words.specs.declared.kind.RunKind.{RunKind}
 use Rattle.pop_words.specs.declared.kind.RunKind.TheVariants.{Whole, Watched}
 use Rattle.pop_words.specs.declared.spec.RunSpec.{RunSpec}
@@ -25,32 +20,25 @@ use Rattle.pair_workers.specs.Run.{joined}
 use Rattle.pop_journal.specs.declared.journal.Journal.{Journal}
 use Rattle.pop_journal.specs.declared.last.Last.{Last}
 use Rattle.pop_journal.specs.Journal.{journal_text}
-use Rattle.pop_journal.specs.Ending.{common_output, ending_for, ending_of}
-use Rattle.pop_journal.specs.Expected.{whole_tail, Holds}
-use Rattle.pop_journal.specs.Laws.{IsRunReadBack}
-use Rattle.pop_journal.proofs.Looks.{least_some, least_of_terminal, common_some}
+use Rattle.pop_journal.specs.Ending.{ending_until}
+use Rattle.pop_journal.specs.Expected.{whole_tail_until, HoldsUntil}
+use Rattle.pop_journal.specs.Laws.{IsRunReadBackUntil}
 use Rattle.pop_lines.proofs.Unbroken.{IsUnbroken}
 use Rattle.pop_journal.proofs.Feeds.{lines_text}
-use Rattle.pop_journal.proofs.Written.{written_is_held}
-use Rattle.cert_base.specs.ProofBound.{proof_bound}
-use Rattle.pop_checker.specs.Computes.{Computes}
+use Rattle.pop_journal.proofs.Written.{written_is_held_until}
 use Rattle.tool_texts.specs.declared.output.Output.{Output}
 use Rattle.tool_texts.specs.Statuses.{status_of}
 use Rattle.tool_texts.specs.Refusals.{output_for}
 use Rattle.tool_commands.specs.declared.replay.TheConstants.{JOURNAL_LINE}
-use Rattle.tool_commands.specs.Bundles.{begun}
-use Rattle.tool_commands.specs.Play.{IsLast}
+use Rattle.tool_commands.specs.Course.{Course, course_of}
 use Rattle.tool_commands.specs.Run.{journal_end}
 use Rattle.tool_commands.specs.Replay.{journal_read}
-use Rattle.tool_commands.proofs.Begun.{begun_two}
-use Rattle.tool_commands.proofs.Ran.{run_reaches, run_tuples}
-use Rattle.pop_journal.proofs.RunKinds.{is_watched}
-use Rattle.pop_tool.specs.Headline.{IsBundleInput, WasRun}
+use Rattle.pop_tool.specs.Headline.{WasRun}
 use Rattle.pop_tool.specs.ReplayHeld.{replay_words, IsReplayHeld}
-use Rattle.pop_tool.proofs.BundleInput.{begins_input, file_computes}
 use Rattle.pop_tool.proofs.Replies.{given_for}
-use Rattle.pop_tool.proofs.RunHeadline.{IsMade, run_made}
-use Rattle.pop_tool.proofs.ReplayHeadline.{IsReadHeld, held_given, least_start, most_start}
+use Rattle.pop_tool.proofs.Courses.{least_start, most_start, rest_tuples, run_ends_only}
+use Rattle.pop_tool.proofs.RunHeadline.{IsMade, last_line, run_made}
+use Rattle.pop_tool.proofs.ReplayHeadline.{IsReadHeld, held_given}
 
 all_unbroken : (line : List ℕ) → All (λ b. b ≢ 10) line → IsUnbroken line
 all_unbroken [] all = refl
@@ -66,63 +54,42 @@ two_unbroken input first second is =
 
 module _ (kind : RunKind) (spec : RunSpec) (input : List ℕ) (output : Output) (made : IsMade kind spec input output)
     (bounded : IsWithinLimits spec × (spec.workers ≤ most_workers_of kind) × (spec.workers * spec.turns ≤ MEETING_LIMIT)) where
-  abbrev net : NetModel
-  net = made.bundle.net
+  abbrev course : Course
+  course = course_of made.bundle made.counts
 
   abbrev start : CrowdModel
-  start = input_crowd net made.counts
+  start = input_crowd course.net made.counts
 
   abbrev end : CrowdModel
   end = made.is.end
 
-  abbrev truth : Bool
-  truth = predicate_value made.bundle.pred.tree made.counts
+  abbrev ending : Last
+  ending = ending_until course.rest course.outcome course.net end
 
-  begins : begun made.begins.0 made.second ≡ Ok (made.bundle, made.counts)
-  begins = sym made.begins.2
-
-  bundle_input : IsBundleInput made.first made.second made.bundle made.counts
-  bundle_input = begins_input made.first made.second made.bundle made.counts made.begins
-
-  computes : Computes net made.bundle.pred.tree (proof_bound made.bundle.proof)
-  computes = file_computes made.bundle bundle_input.value bundle_input.file made.valid
-
-  enough : AGENT_LEAST ≤ input_size net made.counts
-  enough = begun_two made.begins.0 made.second made.bundle made.counts begins
-
-  two : AGENT_LEAST ≤ length start
-  two = least_start kind made.first made.second made.bundle made.counts made.begins
-
-  few : length start ≤ AGENT_LIMIT
-  few = most_start kind made.first made.second made.bundle made.counts made.begins
+  tuples : All (IsTuple course.rest) end
+  tuples = rest_tuples made.first made.second made.bundle made.counts made.begins made.valid kind spec made.is.rounds end made.is.run
 
   -- the last line of the run is that of its last crowd
-  last_is : (pair : Option (ℕ × ℕ)) → IsLast net end pair → journal_end truth pair ≡ ending_of net end
-  last_is None is =
-      let reached = run_reaches net made.counts enough kind spec made.is.rounds end made.is.run in
-      let right = (computes made.counts end made.is.input reached).right is in
-      let tuples = run_tuples net made.counts enough kind spec made.is.rounds end made.is.run in
-      sym (ap (λ (o : Option (ℕ × ℕ)). ending_for o (common_output net end)) (least_of_terminal net end tuples is) ∙ ap (ending_for None) (common_some net end truth some_agent right))
-    where
-      some_agent : 1 ≤ length end
-      some_agent =
-          let same : length (replay net (joined made.is.rounds) start) ≡ length start = length-replay net (joined made.is.rounds) start in
-          let ends : length (replay net (joined made.is.rounds) start) ≡ length end = ap (length {A = Tuple}) (is_watched net start spec made.is.rounds end kind made.is.run).replays in
-          omega (arith, same, ends, two)
-  last_is (Some (a, b)) is = sym (ap (λ (o : Option (ℕ × ℕ)). ending_for o (common_output net end)) (least_some net end a b is))
+  last_is : journal_end course.told made.is.pair ≡ ending
+  last_is =
+      run_ends_only made.first made.second made.bundle made.counts made.begins made.valid kind spec made.is.rounds end made.is.run (journal_end course.told made.is.pair)
+      (last_line course.rest end tuples course.told made.is.pair made.is.last)
 
   abbrev journal : Journal
-  journal = record { kind = kind; spec = spec; rounds = made.is.rounds; tail = lines_of (whole_tail net end); first = JOURNAL_LINE }
+  journal = record { kind = kind; spec = spec; rounds = made.is.rounds; tail = lines_of (whole_tail_until course.rest course.outcome course.net end); first = JOURNAL_LINE }
 
-  written : IsRunReadBack kind net start spec made.is.rounds end JOURNAL_LINE × Holds net start journal
-  written = written_is_held kind net start spec made.is.rounds end JOURNAL_LINE two few bounded.0 bounded.1 bounded.2 made.is.run
+  written : IsRunReadBackUntil course.rest course.outcome kind course.net start spec made.is.rounds end JOURNAL_LINE × HoldsUntil course.rest course.outcome course.net start journal
+  written =
+      written_is_held_until course.rest course.outcome kind course.net start spec made.is.rounds end JOURNAL_LINE
+      (least_start made.first made.second made.bundle made.counts made.begins) (most_start made.first made.second made.bundle made.counts made.begins)
+      bounded.0 bounded.1 bounded.2 made.is.run
 
-  lines_are : lines_of output.text ≡ made.first ∷ made.second ∷ lines_of (journal_text kind net spec made.is.rounds end (ending_of net end))
+  lines_are : lines_of output.text ≡ made.first ∷ made.second ∷ lines_of (journal_text kind course.net spec made.is.rounds end ending)
   lines_are =
       let both = two_unbroken input made.first made.second made.lines in
-      ap lines_of (made.is.text ∙ ap (λ (l : Last). ended made.first ++ ended made.second ++ journal_text kind net spec made.is.rounds end l) (last_is made.is.pair made.is.last)
-      ∙ ap (λ (t : List ℕ). ended made.first ++ t ++ journal_text kind net spec made.is.rounds end (ending_of net end)) (sym (append-nil (ended made.second))))
-      ∙ lines_text (made.first ∷ made.second ∷ []) (journal_text kind net spec made.is.rounds end (ending_of net end)) (both.0, (both.1, tt))
+      ap lines_of (made.is.text ∙ ap (λ (l : Last). ended made.first ++ ended made.second ++ journal_text kind course.net spec made.is.rounds end l) last_is
+      ∙ ap (λ (t : List ℕ). ended made.first ++ t ++ journal_text kind course.net spec made.is.rounds end ending) (sym (append-nil (ended made.second))))
+      ∙ lines_text (made.first ∷ made.second ∷ []) (journal_text kind course.net spec made.is.rounds end ending) (both.0, (both.1, tt))
 
   pub made_held : length output.text ≤ INPUT_LIMIT → IsReadHeld kind output.text (length (joined made.is.rounds))
   made_held short =
@@ -130,11 +97,11 @@ module _ (kind : RunKind) (spec : RunSpec) (input : List ℕ) (output : Output) 
         short = short;
         first = made.first;
         second = made.second;
-        more = lines_of (journal_text kind net spec made.is.rounds end (ending_of net end));
+        more = lines_of (journal_text kind course.net spec made.is.rounds end ending);
         lines = lines_are;
         bundle = made.bundle;
         counts = made.counts;
-        begins = bundle_input;
+        begins = made.begins;
         valid = made.valid;
         journal = journal;
         read = ap (journal_read kind) written.0;

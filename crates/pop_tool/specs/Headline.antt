@@ -1,5 +1,5 @@
 -- Headline: what a printed text says of a protocol.
-use Rattle.std.specs.Prelude.{◌≡◌, ◌↔◌, ◌⊎◌, ◌*◌, ◌≤◌, ℕ, Bool, List, [], ◌∷◌, ◌++◌, length, All, Option, Some, Ok}
+use Rattle.std.specs.Prelude.{◌≡◌, ◌↔◌, ◌⊎◌, ◌≤◌, ℕ, Bool, List, [], ◌∷◌, ◌++◌, length, All, Option, Some, Ok}
 use Rattle.serde_json.specs.Data.{Data}
 use Rattle.pop_io.specs.declared.whole.TheConstants.{INPUT_LIMIT}
 use Rattle.pop_lines.specs.Lines.{lines_of, ended}
@@ -12,13 +12,9 @@ use Rattle.pop_net.specs.Step.{Step}
 use Rattle.pop_net.specs.Reachable.{Reachable}
 use Rattle.pop_net.specs.Terminal.{IsTerminal}
 use Rattle.pop_crowd.specs.declared.crowd.Meeting.{Meeting}
-use Rattle.terminal_test.specs.Pairs.{IsLeastPair}
 use Rattle.pop_words.specs.declared.kind.RunKind.{RunKind}
 use Rattle.pop_words.specs.declared.kind.RunKind.TheVariants.{Whole, Watched}
 use Rattle.pop_words.specs.declared.spec.RunSpec.{RunSpec}
-use Rattle.pop_words.specs.declared.spec.TheConstants.{MEETING_LIMIT}
-use Rattle.pop_words.specs.Options.{IsWithinLimits}
-use Rattle.pop_words.specs.Kinds.{most_workers_of}
 use Rattle.pop_words.specs.declared.command.Command.TheVariants.{Check, Run, Watch, Replay}
 use Rattle.pop_words.specs.declared.command.Command.TheVariants.{ReplayWatched, Settle, Compile, Flocks}
 use Rattle.pop_words.specs.declared.command.Command.TheVariants.{Show, Succinct}
@@ -28,7 +24,7 @@ use Rattle.pair_workers.specs.Run.{joined}
 use Rattle.pair_workers.specs.WatchedRun.{IsRunOf}
 use Rattle.pop_journal.specs.Journal.{journal_text}
 use Rattle.pop_journal.specs.declared.last.Last.{Last}
-use Rattle.pop_journal.specs.declared.last.Last.TheVariants.{Verdict, Undecided as UndecidedBy}
+use Rattle.pop_journal.specs.declared.last.Last.TheVariants.{Verdict}
 use Rattle.cert_base.specs.ProofBound.{proof_bound}
 use Rattle.cert_base.specs.ValidProof.{ValidProof}
 use Rattle.cert_json.specs.BundleFile.{IsBundleFile}
@@ -49,7 +45,9 @@ use Rattle.comp_net.specs.declared.choice.LeafChoice.TheVariants as leaves
 use Rattle.tool_commands.specs.Settle.{settle_text}
 use Rattle.tool_commands.specs.Compile.{bundle_line, IsCompiled}
 use Rattle.pop_tool.specs.Outcome.{IsAnswered}
+use Rattle.pop_tool.specs.Runs.{IsLastLine, IsAllowedRun}
 use Rattle.pop_tool.specs.StableHeadline.{IsStableLine, StableSays, IsValidStableLine, SettledSays}
+use Rattle.pop_tool.specs.StableHeadline.{StableRunSays, IsStableHeldInput}
 use Rattle.goal_json.specs.declared.bundle.StableBundle.{StableBundle}
 
 -- the input, within its limit, is one line, which is the file of this bundle
@@ -101,13 +99,6 @@ pub record IsShownLine (input text : List ℕ) : Type 0 where
   pub right : IsRight bundle.net bundle.pred bundle.proof
   pub printed : text ≡ shown_text bundle
 
--- the last line of a journal that ends in this crowd: the value if the crowd is terminal, and else the least pair of
--- agents that a meeting changes
-pub record IsLastLine (net : NetModel) (value : Bool) (end : CrowdModel) (last : Last) : Type 0 where
-  pub verdict : IsTerminal (Step net) end → last ≡ Verdict value
-  pub undecided : ¬ IsTerminal (Step net) end
-      → (a : ℕ) × (b : ℕ) × IsLeastPair net end a b × (last ≡ UndecidedBy a b)
-
 -- The printed journal is a run of this kind of the bundle's net from the input crowd. It has a verdict exactly when the
 -- last crowd is terminal, and the verdict is the predicate's value; then the status is Done, and else Undecided.
 pub record RunSays (kind : RunKind) (spec : RunSpec) (input text : List ℕ) (status : Status) : Type 0 where
@@ -123,7 +114,7 @@ pub record RunSays (kind : RunKind) (spec : RunSpec) (input text : List ℕ) (st
   pub run : IsRunOf kind bundle.net (input_crowd bundle.net counts) spec rounds end
   pub last : Last
   pub printed : text ≡ ended first ++ ended second ++ journal_text kind bundle.net spec rounds end last
-  pub ends : IsLastLine bundle.net (predicate_value bundle.pred.tree counts) end last
+  pub ends : IsLastLine bundle.net (Verdict (predicate_value bundle.pred.tree counts)) end last
   pub terminal : (value : Bool) → last ≡ Verdict value → IsTerminal (Step bundle.net) end
   pub done : (status ≡ Done) ↔ IsTerminal (Step bundle.net) end
   pub undecided : (status ≡ Undecided) ↔ ¬ IsTerminal (Step bundle.net) end
@@ -146,12 +137,6 @@ pub record SettleSays (input text : List ℕ) : Type 0 where
   pub outputs : All (λ tuple. output_of bundle.net tuple ≡ predicate_value bundle.pred.tree counts) end
   pub printed : text ≡ settle_text bundle.net takes end (predicate_value bundle.pred.tree counts)
 
--- the numbers of a run of this kind are within their limits
-pub record IsAllowedRun (kind : RunKind) (spec : RunSpec) : Type 0 where
-  pub each : IsWithinLimits spec
-  pub workers : spec.workers ≤ most_workers_of kind
-  pub meetings : spec.workers * spec.turns ≤ MEETING_LIMIT
-
 -- The input is a bundle whose proof is valid, a crowd line, and the text of a journal. The journal has rounds that are a
 -- run of this kind of the bundle's net from the input crowd, with this many meetings.
 pub record IsHeldInput (kind : RunKind) (input : List ℕ) (meetings : ℕ) : Type 0 where
@@ -168,7 +153,7 @@ pub record IsHeldInput (kind : RunKind) (input : List ℕ) (meetings : ℕ) : Ty
   pub end : CrowdModel
   pub run : IsRunOf kind bundle.net (input_crowd bundle.net counts) spec rounds end
   pub last : Last
-  pub ends : IsLastLine bundle.net (predicate_value bundle.pred.tree counts) end last
+  pub ends : IsLastLine bundle.net (Verdict (predicate_value bundle.pred.tree counts)) end last
   pub lines : lines_of input ≡ first ∷ second ∷ lines_of (journal_text kind bundle.net spec rounds end last)
   pub all : length (joined rounds) ≡ meetings
 
@@ -213,19 +198,21 @@ pub record Headline (words : List (List ℕ)) (input text : List ℕ) (status : 
       → SaysShown bundle text status ↔ HasValidProof bundle
   -- what `show` prints shows the very net and predicate that are certified
   pub shown : meaning_of words ≡ Ok Show → status ≡ Done → IsShownLine input text
+  -- the second for a bundle of which some leaf has goals
   pub run : (spec : RunSpec) → meaning_of words ≡ Ok (Run spec) → WasRun status
-      → RunSays Whole spec input text status
+      → RunSays Whole spec input text status ⊎ StableRunSays Whole spec input text status
   pub watch : (spec : RunSpec) → meaning_of words ≡ Ok (Watch spec) → WasRun status
-      → RunSays Watched spec input text status
+      → RunSays Watched spec input text status ⊎ StableRunSays Watched spec input text status
   pub compile : meaning_of words ≡ Ok Compile → status ≡ Done → CompileSays leaves.Plain input text
   pub flocks : meaning_of words ≡ Ok Flocks → status ≡ Done → CompileSays leaves.Flocks input text
   pub succinct : meaning_of words ≡ Ok Succinct → status ≡ Done → CompileSays leaves.Succinct input text
   -- the second for a bundle of which some leaf has goals
   pub settle : meaning_of words ≡ Ok Settle → status ≡ Done → SettleSays input text ⊎ SettledSays input text
   -- `holds`, with any number, is printed exactly for a journal of a run of the kind with this many meetings
-  pub replay : meaning_of words ≡ Ok Replay → (k : ℕ) → SaysHolds k text status ↔ IsHeldInput Whole input k
+  pub replay : meaning_of words ≡ Ok Replay → (k : ℕ)
+      → SaysHolds k text status ↔ (IsHeldInput Whole input k ⊎ IsStableHeldInput Whole input k)
   pub replay_watched : meaning_of words ≡ Ok ReplayWatched → (k : ℕ)
-      → SaysHolds k text status ↔ IsHeldInput Watched input k
+      → SaysHolds k text status ↔ (IsHeldInput Watched input k ⊎ IsStableHeldInput Watched input k)
 
 -- if it is known what the source had left and what the sink holds, then what the sink gained says so
 abbrev pub IsHeadline : List (List ℕ) → Option (List ℕ) → Option (List ℕ) → Option (List ℕ) → Status → Type 0

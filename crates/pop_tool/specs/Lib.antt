@@ -4,6 +4,7 @@ pub mod Outcome
 pub mod Source
 pub mod Written
 pub mod OneAnswer
+pub mod Runs
 pub mod StableHeadline
 pub mod Headline
 pub mod ReplayHeld

@@ -28,7 +28,6 @@ use Rattle.tool_commands.specs.declared.bundle.AnyBundle.{AnyBundle}
 use Rattle.tool_commands.specs.declared.bundle.AnyBundle.TheVariants.{Plain, Stable}
 use Rattle.tool_commands.specs.Check.{judgement, stable_judgement, OfAnyBundle, OfLine, CheckGives}
 use Rattle.tool_commands.specs.Show.{shown_or_rejected, OfBundle as OfShownBundle, OfLine as OfShownLine, ShowGives}
-use Rattle.tool_commands.specs.StableBundles.{net_of}
 use Rattle.tool_commands.specs.Course.{course_of}
 use Rattle.tool_commands.specs.Run.{run_ending, OfJudged, OfLines as OfRunLines, RunGives}
 use Rattle.tool_commands.specs.declared.replay.TheConstants.{JOURNAL_LINE}
@@ -108,8 +107,8 @@ compared_other meetings (Some difference) e = absurd cc
 
 replay_judged_other : (kind : RunKind) (bundle : AnyBundle) (counts : List ℕ) (lines : List (List ℕ)) (judged : Option StableRejected) → IsOther (judged_output kind bundle counts lines judged)
 replay_judged_other kind bundle counts lines None =
-    let start = input_crowd (net_of bundle) counts in
     let course = course_of bundle counts in
+    let start = input_crowd course.net counts in
     bind_keeps IsOther refused (journal_read kind (journal_in kind (length start) JOURNAL_LINE lines)) (λ journal. Ok (journal_output course start journal))
     (λ journal. compared_other (length (joined journal.rounds)) (first_difference (journal.first + 1) (journal_compared_until course.rest course.outcome course.net start journal)))
 replay_judged_other kind bundle counts lines (Some rejected) = λ e. absurd cc

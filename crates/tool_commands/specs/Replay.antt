@@ -23,7 +23,7 @@ use Rattle.tool_texts.specs.Differences.{difference_output}
 use Rattle.tool_texts.specs.Rejections.{stable_rejection_output}
 use Rattle.tool_commands.specs.declared.replay.TheConstants.{JOURNAL_LINE}
 use Rattle.tool_commands.specs.declared.bundle.AnyBundle.{AnyBundle}
-use Rattle.tool_commands.specs.StableBundles.{net_of, IsAnyBegunBy, IsAnyJudged}
+use Rattle.tool_commands.specs.StableBundles.{IsAnyBegunBy, IsAnyJudged}
 use Rattle.tool_commands.specs.Course.{Course, course_of}
 
 -- the line of a journal that holds, with its number of meetings
@@ -63,7 +63,7 @@ replay_output kind course start lines = journal_read kind
 abbrev pub judged_output : RunKind → AnyBundle → List ℕ → List (List ℕ) → Option StableRejected
     → Result Output Refusal
 judged_output kind bundle counts lines None =
-    replay_output kind (course_of bundle counts) (input_crowd (net_of bundle) counts) lines
+    replay_output kind (course_of bundle counts) (input_crowd (course_of bundle counts).net counts) lines
 judged_output kind bundle counts lines (Some rejected) = Ok (stable_rejection_output rejected)
 
 abbrev pub OfBegun : RunKind → List (List ℕ) → AnyBundle × List ℕ → Result Output Refusal → Type 0

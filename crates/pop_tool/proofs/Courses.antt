@@ -1,0 +1,115 @@
+-- What holds of runs of a bundle whose proof is valid, with goals or without.
+use Rattle.std.proofs.Common.{◌≡◌, ℕ, ◌≤◌, List, length, map, Option, Some, None, Ok, refl, sym, ap, subst, ◌∙◌, arith}
+use Rattle.std.specs.Prelude.{is_none, All}
+use Rattle.std.proofs.lemmas.List.{length-map}
+use Rattle.pres_ast.specs.PredicateValue.{predicate_value}
+use Rattle.pop_net.specs.LeafModel.{LeafModel}
+use Rattle.pop_net.specs.NetModel.{NetModel, Tuple, CrowdModel, IsTuple, number_of_helpers}
+use Rattle.pop_net.specs.InputCrowd.{IsInput, input_crowd}
+use Rattle.pop_net.specs.Step.{Step}
+use Rattle.pop_net.specs.Reachable.{Reachable}
+use Rattle.pop_net.specs.Terminal.{IsTerminal}
+use Rattle.pop_crowd.specs.Replay.{replay}
+use Rattle.pop_crowd.proofs.Reached.{length-replay}
+use Rattle.pop_crowd.specs.Crowds.{input_size}
+use Rattle.pop_crowd.specs.declared.crowd.Meeting.{Meeting}
+use Rattle.pop_crowd.specs.declared.limits.TheConstants.{AGENT_LEAST, AGENT_LIMIT}
+use Rattle.pop_words.specs.declared.kind.RunKind.{RunKind}
+use Rattle.pop_words.specs.declared.spec.RunSpec.{RunSpec}
+use Rattle.pair_workers.specs.Run.{joined}
+use Rattle.pair_workers.specs.SameLanes.{HaveSameLanes}
+use Rattle.pair_workers.specs.WatchedRun.{IsRunOfUntil}
+use Rattle.pop_journal.specs.declared.last.Last.{Last}
+use Rattle.pop_journal.specs.declared.last.Last.TheVariants.{Undecided}
+use Rattle.pop_journal.specs.Ending.{least_pair, common_output, quiet_ending, rest_ending, ending_with, ending_until}
+use Rattle.pop_journal.proofs.Looks.{common_some}
+use Rattle.pop_journal.proofs.RunKinds.{is_watched_until}
+use Rattle.goal_settle.specs.Chosen.{proof_at}
+use Rattle.goal_settle.proofs.HushedLeaves.{states_listed}
+use Rattle.tool_commands.specs.declared.bundle.AnyBundle.{AnyBundle}
+use Rattle.tool_commands.specs.declared.bundle.AnyBundle.TheVariants.{Plain, Stable}
+use Rattle.tool_commands.specs.StableBundles.{net_of, IsAnyBegunBy, IsAnyJudged}
+use Rattle.tool_commands.specs.Course.{Course, course_of}
+use Rattle.tool_commands.proofs.Begun.{begun_two, begun_few}
+use Rattle.tool_commands.proofs.InputSize.{length-input_crowd}
+use Rattle.tool_commands.proofs.ProvedBundles.{course_net}
+use Rattle.tool_commands.proofs.Ran.{run_reaches, run_tuples}
+use Rattle.pop_tool.specs.Runs.{IsLastLine}
+use Rattle.pop_tool.proofs.BundleInput.{plain_input, any_counts, file_computes}
+use Rattle.pop_tool.proofs.LastLine.{is_last, only_last}
+
+-- words mean the same in both nets of a course
+pub course_lanes : (bundle : AnyBundle) (counts : List ℕ) → HaveSameLanes (course_of bundle counts).rest (course_of bundle counts).net
+course_lanes (Plain bundle) counts = refl
+course_lanes (Stable bundle) counts = states_listed bundle.net.leaves (proof_at counts bundle.proof).leaves
+
+module _ (first second : List ℕ) (bundle : AnyBundle) (counts : List ℕ) (begins : IsAnyBegunBy first second (Ok (bundle, counts))) where
+  abbrev course : Course
+  course = course_of bundle counts
+
+  abbrev start : CrowdModel
+  start = input_crowd course.net counts
+
+  pub enough : AGENT_LEAST ≤ input_size course.net counts
+  enough =
+      subst (λ (n : NetModel). AGENT_LEAST ≤ input_size n counts) (sym (course_net bundle counts)) (begun_two begins.0 second bundle counts (sym begins.2))
+
+  pub least_start : AGENT_LEAST ≤ length start
+  least_start =
+      let l = enough in
+      let e = length-input_crowd course.net counts in omega (arith, l, e)
+
+  pub most_start : length start ≤ AGENT_LIMIT
+  most_start =
+      let l = subst (λ (n : NetModel). input_size n counts ≤ AGENT_LIMIT) (sym (course_net bundle counts)) (begun_few begins.0 second bundle counts (sym begins.2)) in
+      let e = length-input_crowd course.net counts in omega (arith, l, e)
+
+  pub is_input : IsInput (length course.net.variables) (number_of_helpers course.net) counts
+  is_input =
+      subst (λ (n : NetModel). IsInput (length n.variables) (number_of_helpers n) counts) (sym (course_net bundle counts)) (any_counts first second bundle counts begins)
+
+-- what is told of a crowd in which a run ends that leaves no pair
+pub told_at_rest : (first second : List ℕ) (bundle : AnyBundle) (counts : List ℕ) → IsAnyBegunBy first second (Ok (bundle, counts)) → IsAnyJudged bundle None → (end : CrowdModel) → 1 ≤ length end
+    → Reachable (Step (course_of bundle counts).net) (input_crowd (course_of bundle counts).net counts) end → IsTerminal (Step (course_of bundle counts).rest) end
+    → rest_ending (course_of bundle counts).outcome (common_output (course_of bundle counts).net end) ≡ (course_of bundle counts).told
+told_at_rest first second (Plain bundle) counts begins valid end some reached terminal =
+    let input = plain_input first second bundle counts begins in
+    let right = (file_computes bundle input.value input.file valid counts end (is_input first second (Plain bundle) counts begins) reached).right terminal in
+    ap quiet_ending (common_some bundle.net end (predicate_value bundle.pred.tree counts) some right)
+told_at_rest first second (Stable bundle) counts begins valid end some reached terminal = refl
+
+-- a run of its net from its input crowd
+module _ (first second : List ℕ) (bundle : AnyBundle) (counts : List ℕ) (begins : IsAnyBegunBy first second (Ok (bundle, counts))) (valid : IsAnyJudged bundle None)
+    (kind : RunKind) (spec : RunSpec) (rounds : List (List Meeting)) (end : CrowdModel)
+    (run : IsRunOfUntil kind (course_of bundle counts).rest (course_of bundle counts).net (input_crowd (course_of bundle counts).net counts) spec rounds end) where
+  abbrev way : Course
+  way = course_of bundle counts
+
+  pub reached : Reachable (Step way.net) (input_crowd way.net counts) end
+  reached = run_reaches way.rest way.net counts (enough first second bundle counts begins) kind spec rounds end run
+
+  pub rest_tuples : All (IsTuple way.rest) end
+  rest_tuples =
+      let same : length way.rest.leaves ≡ length way.net.leaves =
+      sym (length-map way.rest.leaves (λ (leaf : LeafModel). length leaf.states))
+      ∙ ap length (course_lanes bundle counts)
+      ∙ length-map way.net.leaves (λ (leaf : LeafModel). length leaf.states) in
+      subst (λ (n : ℕ). All (λ (t : Tuple). length t ≡ n) end) (sym same)
+      (run_tuples way.rest way.net counts (enough first second bundle counts begins) kind spec rounds end run)
+
+  some_agent : 1 ≤ length end
+  some_agent =
+      let begun = input_crowd way.net counts in
+      let two = least_start first second bundle counts begins in
+      let same : length (replay way.net (joined rounds) begun) ≡ length begun = length-replay way.net (joined rounds) begun in
+      let ends : length (replay way.net (joined rounds) begun) ≡ length end = ap (length {A = Tuple}) (is_watched_until way.rest way.net begun spec rounds end kind run).replays in
+      omega (arith, same, ends, two)
+
+  told : IsTerminal (Step way.rest) end → rest_ending way.outcome (common_output way.net end) ≡ way.told
+  told = told_at_rest first second bundle counts begins valid end some_agent reached
+
+  pub run_ends : IsLastLine way.rest way.told end (ending_until way.rest way.outcome way.net end)
+  run_ends = is_last way.rest way.net end rest_tuples way.outcome way.told told
+
+  pub run_ends_only : (last : Last) → IsLastLine way.rest way.told end last → last ≡ ending_until way.rest way.outcome way.net end
+  run_ends_only = only_last way.rest way.net end rest_tuples way.outcome way.told told
