@@ -23,9 +23,7 @@ HEADLINE = (
     "CheckSays",
     "IsShownLine",
     "RunSays",
-    "IsLastLine",
     "SettleSays",
-    "IsAllowedRun",
     "IsHeldInput",
     "CompileSays",
 )
@@ -55,8 +53,11 @@ PROMISES = (
     ),
     ("the text of a run that was made before", "write_journal, push_journal"),
     ("a text is this journal, or this is its first malformed line", "read_journal"),
-    ("a journal is that of a run, or this is its first line that isn't the expected one", "verify"),
-    ("a journal that holds has one spelling; what a run wrote holds", "one_spelling, written_holds, replay_holds"),
+    ("a journal is that of a run, or this is its first line that isn't the expected one", "verify, verify_settled"),
+    (
+        "a journal that holds has one spelling; what a run wrote holds",
+        "one_spelling, one_spelling_until, written_holds, written_holds_until, replay_holds",
+    ),
     ("layers end every crowd within a bound; a tree leaves no wrong end", "check_layers, check_tree"),
     (
         (
@@ -77,8 +78,11 @@ PROMISES = (
     ),
     ("a crowd's only settlement, within the proof's bound, and its last crowd is terminal", "settle, settlements_end"),
     (
-        "the only settlement by the goals that an input chooses, and its last crowd is right for ever",
-        "settle_goals, settlements_rest",
+        (
+            "the only settlement by the goals that an input chooses, the net of their moves, and where none of these is"
+            " possible the outputs are right for ever"
+        ),
+        "settle_goals, resting_net, settlements_rest",
     ),
     ("a value is the file of this proof or bundle, or this is the first broken rule", "read_proof, read_bundle"),
     (
@@ -123,6 +127,10 @@ TOP_CRATES = ("tool_texts", "tool_commands", "pop_tool", "pop_main")
 BELOW_CHECK = (
     ("pop_tool", "StableHeadline", "StableSays"),
     ("pop_tool", "StableHeadline", "SettledSays"),
+    ("pop_tool", "StableHeadline", "StableRunSays"),
+    ("pop_tool", "StableHeadline", "IsStableHeldInput"),
+    ("pop_tool", "Runs", "IsLastLine"),
+    ("pop_tool", "Runs", "IsAllowedRun"),
     ("net_goals", "StablyRight", "IsStablyRight"),
     ("pop_checker", "Sound", "IsRight"),
     ("pop_checker", "Changes", "ChangesAtMost"),

@@ -3,6 +3,7 @@ from __future__ import annotations
 
 import re
 from collections import Counter
+from typing import Any
 
 from ..text.jsontext import read_json
 from ..protocol.nets import FormatFault, Leaf, Net, is_silent, net_of
@@ -57,7 +58,8 @@ def undecided_told(bundle_line: str, crowd: str, printed: bytes) -> list[str]:
     end = len(lines) - 1 - lines[::-1].index("end")
     meetings = [line for line in lines[3:end] if not line.startswith("round")]
     try:
-        net = net_of(read_json(bundle_line)["net"])
+        bundle = read_json(bundle_line)
+        net, end_told = net_of(bundle["net"]), _end_told(bundle["proof"])
     except (FormatFault, ValueError, KeyError, TypeError):
         return []
     agents, tables = seated(net, crowd), [reactions(leaf) for leaf in net.leaves]
@@ -71,18 +73,24 @@ def undecided_told(bundle_line: str, crowd: str, printed: bytes) -> list[str]:
     a, b = int(found.group(1)), int(found.group(2))
     if crowd_lines != lines[end + 1 : -1] or max(a, b) >= len(agents):
         return []
-    return [_told(net, agents, a, b), _when(len(meetings), last)]
+    return [_told(net, agents, a, b, end_told), _when(len(meetings), last)]
 
 
-def _told(net: Net, agents: list[States], a: int, b: int) -> str:
+def _end_told(proof: Any) -> str:
+    """What the run didn't come to: by goals it is an answer that stays."""
+    has_goals = any("goals" in part and "layers" not in part for part in proof)
+    return "an answer that stays" if has_goals else "the crowd's end"
+
+
+def _told(net: Net, agents: list[States], a: int, b: int, end_told: str) -> str:
     if agents[a] == agents[b]:
         return (
-            f"the turns are used up before the crowd's end: agents {a} and {b} are both in `{_names(net, agents[a])}`,"
+            f"the turns are used up before {end_told}: agents {a} and {b} are both in `{_names(net, agents[a])}`,"
             " and their meeting would change that"
         )
     where = "" if len(net.leaves) == 1 else f" (by {', '.join(leaf_names(net))})"
     return (
-        f"the turns are used up before the crowd's end: agent {a} is in `{_names(net, agents[a])}` and agent {b} in"
+        f"the turns are used up before {end_told}: agent {a} is in `{_names(net, agents[a])}` and agent {b} in"
         f" `{_names(net, agents[b])}`{where}, and their meeting would change that"
     )
 

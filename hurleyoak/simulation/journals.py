@@ -116,7 +116,7 @@ def read_journal(text: str, name: str) -> Curve:
     recorder.next = 0
     recorder.note(crowd.meetings, crowd.crowd)
     names = {word for found in recorder.crowds for word in found}
-    terminal = not lines[-1].startswith("undecided")
+    terminal = not lines[-1].startswith(("undecided", "settled"))
     curve = Curve(
         title="",
         crowd=crowd_words(net, counts),

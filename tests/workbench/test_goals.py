@@ -26,6 +26,7 @@ from hurleyoak.show.drawing import drawn
 from hurleyoak.show.explaining import bundle_to_explain, explain
 from hurleyoak.show.page import page
 from hurleyoak.show.values import explanation_value
+from hurleyoak.simulation.journals import read_journal
 from hurleyoak.text.files import load
 from hurleyoak.text.loaded import LoadedNet, strict_bundle
 from hurleyoak.text.saving import with_proof
@@ -249,12 +250,36 @@ def test_files_both_ways() -> None:
 
 
 @needs_program
-@pytest.mark.parametrize("command", ["run", "show", "watch"])
-def test_commands_that_don_t_take_goals_say_so(command: str) -> None:
-    counts = [] if command == "show" else ["x=2", "y=1"]
-    run = pop(command, str(TELLING), *counts)
+def test_show_doesn_t_take_goals_and_says_so() -> None:
+    run = pop("show", str(TELLING))
     assert run.returncode == program.REFUSED and run.stdout == "fault: format /proof/0/layers kind\n"
-    assert f"this proof has goals, and `{command}` takes proofs with layers alone" in run.stderr
+    assert "this proof has goals, and `show` takes proofs with layers alone" in run.stderr
+    assert "`check`, `run`, `watch`, `replay` and `settle` take it" in run.stderr
+
+
+@needs_program
+@pytest.mark.parametrize("command", ["run", "watch"])
+def test_runs_by_goals_end_where_the_outputs_stay(command: str) -> None:
+    looks = str(EXAMPLES / "stable" / "two-looks.pop")
+    run = pop(command, looks, "x=1", "y=2", "--turns", "4096")
+    assert run.returncode == program.DONE and run.stdout.endswith("\nsettled true\n")
+    flag = ["--watched"] if command == "watch" else []
+    again = pop("replay", *flag, text=run.stdout)
+    assert (again.returncode, again.stdout[:6]) == (program.DONE, "holds ")
+    other = pop("replay", *flag, text=run.stdout.replace("settled true", "verdict true"))
+    assert other.returncode == program.DIFFERS
+    assert other.stdout.endswith("\nkept: verdict true\nfound: settled true\n")
+    spent = pop(command, looks, "x=1", "y=2", "--turns", "0")
+    assert spent.returncode == program.UNDECIDED and spent.stdout.endswith("\nundecided 0 1\n")
+    assert "the turns are used up before an answer that stays" in spent.stderr
+    assert pop(command, looks, "y=3").stdout.endswith("end\nS 3\nsettled false\n")
+
+
+@needs_program
+def test_a_settled_journal_is_no_terminal_one() -> None:
+    """Agents may go on changing behind its end."""
+    made = pop("run", str(EXAMPLES / "stable" / "two-looks.pop"), "x=3", "--turns", "9").stdout
+    assert made.endswith("\nend\nI1 3\nsettled true\n") and not read_journal(made, "journal").terminal
 
 
 @needs_program

@@ -46,7 +46,9 @@ PROGRAM = (
         (
             "Draws pairs of agents that meet, and prints each meeting, the crowd at the end and the verdict. "
             "If the turns are used up before that, the last line is `undecided` with two agents whose "
-            "meeting would change something; standard error says their states."
+            "meeting would change something; standard error says their states. By a proof with goals a run "
+            "ends where the outputs stay, though agents may go on changing, and the last line is `settled` "
+            "and the value."
         ),
         (
             "pop run examples/majority/majority.pop x=30 y=10 --seed 3",
@@ -60,7 +62,7 @@ PROGRAM = (
         ("pop watch FILE x=30 y=10 [OPTION N]..", "pop watch [OPTION N].. < BUNDLE-AND-CROWD"),
         (
             "As `run`, on threads; an observer looks at the crowd while they work, and stops the last round "
-            "once the crowd has come to its end."
+            "once the crowd has come to its end. By a proof with goals it stops it once the outputs stay."
         ),
         (
             "pop watch examples/majority/majority.pop x=30 y=10 --workers 3",

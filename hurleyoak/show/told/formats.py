@@ -177,8 +177,8 @@ def format_told(asked: Asked, path: str, why: str) -> list[str]:
             ]
         if LAYERS_MISSING.fullmatch(path) and _has_goals(value, path):
             return [
-                f"this proof has goals, and `{asked.words[0]}` takes proofs with layers alone; `check` and `settle` take it",
-                "`simulate`, `sweep` and `play` take the net, whatever its proof is",
+                f"this proof has goals, and `{asked.words[0]}` takes proofs with layers alone",
+                "`check`, `run`, `watch`, `replay` and `settle` take it",
             ]
         if "net" in value and path == "/format":
             return [

@@ -77,7 +77,7 @@ def _difference(kept: str, wanted: str, is_behind_end: bool) -> str:
     if is_behind_end and not wanted:
         return f"`{short(kept)}` is one line too many"
     if is_behind_end:
-        return f"the crowd and the verdict at its end have `{short(wanted)}` here"
+        return f"the crowd and the last line at its end have `{short(wanted)}` here"
     if wanted == "end":
         return "the crowd has come to its end before it"
     if kept == "end":

@@ -86,13 +86,19 @@ MEANINGS = [
     ),
     (
         r"undecided \d+ \d+",
-        "The turns of the run are used up, and a meeting of these two agents would change something.",
+        (
+            "The turns of the run are used up, and a meeting of these two agents would change something. "
+            "By a proof with goals a move of the goal's layers would change it."
+        ),
     ),
     (r"enabled \d+ \d+", "A meeting of these two agents would change something; no lesser pair would."),
     (r"terminal", "No meeting changes anything any more."),
     (r"verdict (true|false)", "The crowd has come to its end, and all agents output this, the predicate's value."),
     (
         r"settled (true|false)",
-        "All agents output this, the predicate's value, and do so for ever, though they may go on changing.",
+        (
+            "No move of the layers is possible that the input chooses from the proof's goals. "
+            "All agents output this, the predicate's value, and do so for ever, though they may go on changing."
+        ),
     ),
 ]

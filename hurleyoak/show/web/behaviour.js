@@ -9,6 +9,13 @@ import { store } from "./store.js";
 
 const MOST = 1_000_000_000;
 
+// What the last line of a run says.
+function endTold(last) {
+  if (last.startsWith("verdict ")) return "As the net is certified, this verdict is the predicate's value.";
+  if (last.startsWith("settled ")) return "As the net is shown stable, this is the predicate's value. Every agent outputs it for ever, though agents may go on changing.";
+  return "The turns were used up before the run came to its end.";
+}
+
 function usualSizes(names, net) {
   if (names.length === 1) return `${names[0]}=10..640*2`;
   return [`${names[0]}=10..640*2`, `${names[1]}=${names[0]}/4`, ...names.slice(2).map((name) => `${name}=0`)].join(" ");
@@ -217,7 +224,7 @@ export class Behaviour {
         this.told,
         badge(held ? "run" : "told"),
         h("p", { class: "summary" }, "The run ends with ", h("code", {}, done.last), ", and the journal is replayed: ", h("code", {}, done.replay)),
-        done.last.startsWith("verdict ") ? h("p", {}, "As the net is certified, this verdict is the predicate's value.") : h("p", {}, "The turns were used up before the crowd's end."),
+        h("p", {}, endTold(done.last)),
         h("div", { class: "row" }, h("button", { type: "button", onclick: () => download("journal.txt", done.journal) }, "Download the journal"), done.list && held ? h("button", { type: "button", onclick: () => this.watch(done) }, "Watch it in Play") : null),
       );
     } catch (error) {
