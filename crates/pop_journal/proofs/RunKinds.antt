@@ -11,7 +11,7 @@ use Rattle.pop_words.specs.declared.kind.RunKind.TheVariants.{Whole, Watched}
 use Rattle.pop_words.specs.Kinds.{most_workers_of}
 use Rattle.pair_workers.specs.Picks.{words_from, first_state}
 use Rattle.pair_workers.specs.Run.{IsRunUntil, joined, meetings_of}
-use Rattle.pair_workers.specs.WatchedRun.{IsWatchedRound, IsWatchedRun, IsWatchedRunUntil, IsRunOf, IsRunOfUntil}
+use Rattle.pair_workers.specs.WatchedRun.{IsWatchedRound, IsWatchedRunUntil, IsRunOf, IsRunOfUntil}
 use Rattle.pair_workers.proofs.Meets.{picked_meet}
 use Rattle.pair_workers.proofs.Rounds.{joined_all}
 use Rattle.pair_workers.proofs.SpentTurns.{over_by_rounds}
@@ -92,8 +92,5 @@ module _ (rest net : NetModel) (start : CrowdModel) (spec : RunSpec) (rounds : L
 
 -- up to a terminal crowd
 module _ (net : NetModel) (start : CrowdModel) (spec : RunSpec) (rounds : List (List Meeting)) (end : CrowdModel) where
-  pub is_watched : (kind : RunKind) → IsRunOf kind net start spec rounds end → IsWatchedRun net start spec rounds end
-  is_watched kind run = is_watched_until net net start spec rounds end kind run
-
   pub run_form : 2 ≤ length start → (kind : RunKind) → IsRunOf kind net start spec rounds end → AreRoundsOf kind spec (length start) rounds
   run_form two kind run = run_form_until net net start spec rounds end two kind run

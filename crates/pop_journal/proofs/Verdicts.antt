@@ -21,8 +21,7 @@ use Rattle.pop_journal.specs.declared.fault.VerifyFault.TheVariants.{Differs}
 use Rattle.pop_journal.specs.declared.journal.Journal.{Journal}
 use Rattle.pop_journal.specs.Rounds.{AreRoundsOf}
 use Rattle.pop_journal.specs.declared.last.Outcome.{Outcome}
-use Rattle.pop_journal.specs.declared.last.Outcome.TheVariants.{Agreed}
-use Rattle.pop_journal.specs.Expected.{Difference, first_difference, journal_compared, journal_compared_until, whole_tail_until, Holds, HoldsUntil}
+use Rattle.pop_journal.specs.Expected.{Difference, first_difference, journal_compared_until, whole_tail_until, HoldsUntil}
 use Rattle.pop_journal.specs.Standing.{Passes}
 use Rattle.pop_journal.proofs.Holds.{run_of_none, none_of_run}
 use Rattle.pop_journal.proofs.RunKinds.{are_watched, is_watched_until, is_of_kind}
@@ -42,14 +41,6 @@ module _ (rest : NetModel) (outcome : Outcome) (net : NetModel) (lanes : HaveSam
       let run : IsWatchedRunUntil rest net start journal.spec journal.rounds holds.0 = is_watched_until rest net start journal.spec journal.rounds holds.0 journal.kind holds.1 in
       none_of_run rest net start journal.spec two few workers.1 lanes tuples journal.rounds watched outcome (journal.first + 1) journal.tail holds.0 workers.0 run
       (holds.2 ∙ ap (λ (c : CrowdModel). lines_of (whole_tail_until rest outcome net c)) (sym run.replays))
-
--- the same for runs up to a terminal crowd
-module _ (net : NetModel) (start : CrowdModel) (journal : Journal) (two : AGENT_LEAST ≤ length start) (few : length start ≤ AGENT_LIMIT) (workers : (1 ≤ journal.spec.workers) × (journal.spec.workers ≤ WORKER_LIMIT)) (tuples : All (IsTuple net) start) (form : AreRoundsOf journal.kind journal.spec (length start) journal.rounds) where
-  pub none_held : first_difference (journal.first + 1) (journal_compared net start journal) ≡ None → Holds net start journal
-  none_held e = none_held_until net Agreed net refl start journal two few workers tuples form e
-
-  pub held_none : Holds net start journal → first_difference (journal.first + 1) (journal_compared net start journal) ≡ None
-  held_none holds = held_none_until net Agreed net refl start journal two few workers tuples form holds
 
 module _ (rest : NetModel) (outcome : Outcome) (net : NetModel) (lanes : HaveSameLanes rest net) (words : List Word) (journal : Journal) (r : Result ℕ (Failure VerifyFault)) (limits : IsWithinLimits journal.spec) (form : AreRoundsOf journal.kind journal.spec (length words) journal.rounds) (two : AGENT_LEAST ≤ length words) (few : length words ≤ AGENT_LIMIT) where
   abbrev start : CrowdModel

@@ -28,17 +28,11 @@ abbrev pub text_ended_until : NetModel → Outcome → RunKind → NetModel → 
 text_ended_until rest outcome kind net spec rounds end =
     journal_text kind net spec rounds end (ending_until rest outcome net end)
 
-abbrev pub text_ended : RunKind → NetModel → RunSpec → List (List Meeting) → CrowdModel → List ℕ
-text_ended kind net spec rounds end = text_ended_until net Agreed kind net spec rounds end
-
 -- the text written for a journal's run
 abbrev pub text_held_until : NetModel → Outcome → NetModel → CrowdModel → Journal → List ℕ
 text_held_until rest outcome net start journal =
     text_ended_until rest outcome journal.kind net journal.spec journal.rounds
     (replay net (joined journal.rounds) start)
-
-abbrev pub text_held : NetModel → CrowdModel → Journal → List ℕ
-text_held net start journal = text_held_until net Agreed net start journal
 
 -- A journal that holds and was read from a text with a line feed at its end has no other text.
 abbrev pub HasOneSpelling : NetModel → Outcome → NetModel → Type 0
@@ -61,10 +55,6 @@ abbrev pub IsRunReadBackUntil : NetModel → Outcome → RunKind → NetModel �
 IsRunReadBackUntil rest outcome kind net start spec rounds end first =
     journal_in kind (length start) first (lines_of (text_ended_until rest outcome kind net spec rounds end))
     ≡ Ok (spec, (rounds, lines_of (whole_tail_until rest outcome net end)))
-
-abbrev pub IsRunReadBack : RunKind → NetModel → CrowdModel → RunSpec → List (List Meeting) → CrowdModel → ℕ → Type 0
-IsRunReadBack kind net start spec rounds end first =
-    IsRunReadBackUntil net Agreed kind net start spec rounds end first
 
 -- The text written for a run within the limits is read back to a journal that holds.
 abbrev pub AreWrittenHeld : NetModel → Outcome → RunKind → NetModel → Type 0

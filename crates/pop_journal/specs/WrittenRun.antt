@@ -15,7 +15,3 @@ pub record IsWrittenRunUntil (rest net : NetModel) (crowd : List Word) (spec : R
   pub rounds : List (List Meeting)
   pub run : IsOnlyRunFromUntil rest net crowd spec (record { rounds = rounds; crowd = last; end = end })
   pub text : after ≡ before ++ text_of (run_lines Whole spec rounds)
-
--- such a run up to a terminal crowd
-abbrev pub IsWrittenRun : NetModel → List Word → RunSpec → List ℕ → List ℕ → List Word → End → Type 0
-IsWrittenRun net crowd spec before after last end = IsWrittenRunUntil net net crowd spec before after last end

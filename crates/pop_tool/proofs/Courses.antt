@@ -1,6 +1,6 @@
 -- What holds of runs of a bundle whose proof is valid, with goals or without.
-use Rattle.std.proofs.Common.{◌≡◌, ℕ, ◌≤◌, List, length, map, Option, Some, None, Ok, refl, sym, ap, subst, ◌∙◌, arith}
-use Rattle.std.specs.Prelude.{is_none, All}
+use Rattle.std.proofs.Common.{◌≡◌, ℕ, ◌≤◌, List, length, None, Ok, refl, sym, ap, subst, ◌∙◌, arith}
+use Rattle.std.specs.Prelude.{All}
 use Rattle.std.proofs.lemmas.List.{length-map}
 use Rattle.pres_ast.specs.PredicateValue.{predicate_value}
 use Rattle.pop_net.specs.LeafModel.{LeafModel}
@@ -20,15 +20,14 @@ use Rattle.pair_workers.specs.Run.{joined}
 use Rattle.pair_workers.specs.SameLanes.{HaveSameLanes}
 use Rattle.pair_workers.specs.WatchedRun.{IsRunOfUntil}
 use Rattle.pop_journal.specs.declared.last.Last.{Last}
-use Rattle.pop_journal.specs.declared.last.Last.TheVariants.{Undecided}
-use Rattle.pop_journal.specs.Ending.{least_pair, common_output, quiet_ending, rest_ending, ending_with, ending_until}
+use Rattle.pop_journal.specs.Ending.{common_output, quiet_ending, rest_ending, ending_until}
 use Rattle.pop_journal.proofs.Looks.{common_some}
 use Rattle.pop_journal.proofs.RunKinds.{is_watched_until}
 use Rattle.goal_settle.specs.Chosen.{proof_at}
 use Rattle.goal_settle.proofs.HushedLeaves.{states_listed}
 use Rattle.tool_commands.specs.declared.bundle.AnyBundle.{AnyBundle}
 use Rattle.tool_commands.specs.declared.bundle.AnyBundle.TheVariants.{Plain, Stable}
-use Rattle.tool_commands.specs.StableBundles.{net_of, IsAnyBegunBy, IsAnyJudged}
+use Rattle.tool_commands.specs.StableBundles.{IsAnyBegunBy, IsAnyJudged}
 use Rattle.tool_commands.specs.Course.{Course, course_of}
 use Rattle.tool_commands.proofs.Begun.{begun_two, begun_few}
 use Rattle.tool_commands.proofs.InputSize.{length-input_crowd}

@@ -1,7 +1,6 @@
 -- A journal that is read and holds is the text of a run, and no other text is.
 use Rattle.std.proofs.Common.{◌≡◌, ◌⊎◌, inl, inr, ℕ, ◌*◌, ◌≤◌, List, ◌∷◌, ◌++◌, codes, length, None, Ok, sym, ap, subst, ◌∙◌, arith}
 use Rattle.pop_lines.specs.Lines.{lines_of}
-use Rattle.pres_ast.specs.PredicateValue.{predicate_value}
 use Rattle.pop_net.specs.NetModel.{CrowdModel}
 use Rattle.pop_net.specs.InputCrowd.{input_crowd}
 use Rattle.pop_crowd.specs.declared.crowd.Meeting.{Meeting}

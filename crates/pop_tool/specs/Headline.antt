@@ -6,7 +6,7 @@ use Rattle.pop_lines.specs.Lines.{lines_of, ended}
 use Rattle.pres_ast.specs.PredicateValue.{predicate_value}
 use Rattle.pres_ast.specs.PredModel.{PredModel}
 use Rattle.pres_read.specs.PredText.{IsTextOf}
-use Rattle.pop_net.specs.NetModel.{NetModel, CrowdModel, output_of}
+use Rattle.pop_net.specs.NetModel.{CrowdModel, output_of}
 use Rattle.pop_net.specs.InputCrowd.{input_crowd}
 use Rattle.pop_net.specs.Step.{Step}
 use Rattle.pop_net.specs.Reachable.{Reachable}

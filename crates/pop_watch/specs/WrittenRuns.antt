@@ -15,8 +15,3 @@ pub record IsWrittenRunOfUntil (kind : RunKind) (rest net : NetModel) (crowd : L
   pub rounds : List (List Meeting)
   pub run : IsRunOfKindUntil kind rest net crowd spec (record { rounds = rounds; crowd = last; end = end })
   pub text : after ≡ before ++ text_of (run_lines kind spec rounds)
-
--- such a run up to a terminal crowd
-abbrev pub IsWrittenRunOf : RunKind → NetModel → List Word → RunSpec → List ℕ → List ℕ → List Word → End → Type 0
-IsWrittenRunOf kind net crowd spec before after last end =
-    IsWrittenRunOfUntil kind net net crowd spec before after last end

@@ -1,6 +1,6 @@
 //! Runs that an observer stops within a round once it has seen a terminal crowd, and the text of runs on threads.
 //! It stands on `pair_workers`, `agent_field`, `terminal_test` and `pop_journal`.
-//! The layer above uses: `push_run` makes and writes a run by `IsWrittenRunOf`; `verify_watched` checks a journal.
+//! The layer above uses: `push_run` makes and writes a run by `IsWrittenRunOfUntil`; `verify_watched` checks a journal.
 #![tactic(auto)]
 
 mod context;

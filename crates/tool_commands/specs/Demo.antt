@@ -6,7 +6,7 @@ use Rattle.pres_ast.specs.PredicateValue.{predicate_value}
 use Rattle.pres_read.specs.Canonical.{tree_text}
 use Rattle.pop_net.specs.NetModel.{NetModel, CrowdModel, number_of_helpers}
 use Rattle.pop_net.specs.InputCrowd.{IsInput, input_crowd}
-use Rattle.pop_net.specs.Lanes.{crowd_of, AreValid}
+use Rattle.pop_net.specs.Lanes.{crowd_of}
 use Rattle.pop_crowd.specs.declared.crowd.Meeting.{Meeting}
 use Rattle.pop_words.specs.declared.spec.TheConstants.{DEMO_LIMIT}
 use Rattle.pair_workers.specs.Run.{IsRun, joined}
@@ -89,6 +89,5 @@ pub record IsRunOfCase (case : Case) (ran : RunEnd) : Type 0 where
   pub run : IsRun case.checked.net (input_crowd case.checked.net case.counts) (demo_spec case.number) ran.rounds
       (crowd_of case.checked.net ran.crowd)
   pub last : IsLast case.checked.net (crowd_of case.checked.net ran.crowd) (open_pair ran.end)
-  pub valid : AreValid case.checked.net ran.crowd
   pub agents : length ran.crowd ≡ length (input_crowd case.checked.net case.counts)
   pub few : length (joined ran.rounds) < 2 ^ 64

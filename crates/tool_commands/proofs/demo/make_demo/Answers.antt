@@ -25,7 +25,6 @@ case_output-requires-clause-run g c =
       input = input.input;
       run = subst (λ (t : CrowdModel × RunSpec). IsRun net t.0 t.1 ran.rounds end) (λ i. (input.crowd i, c.demo_run-spec.ensures.run i)) is.run.run;
       last = run_last net end spec (length ran.rounds) ran.end is.run.ends;
-      valid = is.run.valid;
       agents = is.run.agents ∙ sym (length-map crowd (tuple_of net)) ∙ ap (length {A = List ℕ}) input.crowd;
       few = run_small net start spec ran.rounds end two c.demo_run-spec.ensures.limits is.run.run;
     }

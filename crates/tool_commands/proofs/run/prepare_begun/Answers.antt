@@ -1,6 +1,5 @@
-use Rattle.std.proofs.Common.{Ok, Some, None, ◌++◌, refl, sym, subst}
+use Rattle.std.proofs.Common.{Ok, Some, None, ◌++◌, refl, subst}
 use Rattle.pop_lines.specs.Lines.{ended}
-use Rattle.tool_commands.specs.Start.{IsStart}
 use Rattle.tool_commands.specs.Course.{Course}
 use Rattle.tool_commands.specs.Run.{IsRunOutput, OfBegun}
 use Rattle.tool_commands.proofs.Leads.{text_leads, pending_leads, pending_plain}
