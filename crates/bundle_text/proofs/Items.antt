@@ -1,18 +1,14 @@
 -- A list's text, item by item.
-use Rattle.std.proofs.Common.{◌≡◌, ℕ, ◌+◌, ◌<◌, List, [], ◌∷◌, ◌++◌, length, drop, get_or, sym, ap, ◌∙◌, append_assoc, rules}
+use Rattle.std.proofs.Common.{◌≡◌, ℕ, ◌+◌, ◌<◌, List, ◌++◌, length, drop, get_or, sym, ap, ◌∙◌, append_assoc, rules}
 use Rattle.std.specs.Prelude.{Bool, true, nat_lt}
 use Rattle.std.proofs.lemmas.List.{at_drop_more}
 use Rattle.serde_json.specs.Data.{Data, null}
 use Rattle.serde_json.specs.View.{items_of}
 use Rattle.serde_json.specs.Written.{compact_text, items_text, comma_if}
-use Rattle.net_json.specs.Written.{list_data}
 
 -- what is still to be written of a list, from item i on
 abbrev pub left_of : List Data → ℕ → List ℕ
 left_of items i = items_text (nat_lt 0 i) (items_of (drop i items))
-
-pub begun : (items : List Data) (old new : List ℕ) → new ≡ old ++ 91 ∷ [] → new ++ left_of items 0 ≡ old ++ compact_text (list_data items)
-begun items old new is = ap (λ t. t ++ left_of items 0) is ∙ append_assoc old (91 ∷ []) (left_of items 0)
 
 pub one_more : (items : List Data) (i : ℕ) (later : Bool) (whole t0 t1 t2 : List ℕ) → i < length items → later ≡ nat_lt 0 i → t0 ++ left_of items i ≡ whole
     → t1 ≡ t0 ++ comma_if later → t2 ≡ t1 ++ compact_text (get_or items i null) → t2 ++ left_of items (i + 1) ≡ whole

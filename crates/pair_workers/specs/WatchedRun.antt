@@ -40,10 +40,6 @@ pub record IsWatchedRunUntil (rest net : NetModel) (start : CrowdModel) (spec : 
   -- the end is terminal in rest, or the turns are spent
   pub over : IsTerminal (Step rest) end ⊎ AreSpent spec rounds
 
--- a watched run up to a terminal crowd
-abbrev pub IsWatchedRun : NetModel → CrowdModel → RunSpec → List (List Meeting) → CrowdModel → Type 0
-IsWatchedRun net start spec rounds end = IsWatchedRunUntil net net start spec rounds end
-
 -- a run of this kind by the meetings of the second net, which is over once the crowd is terminal in the first
 abbrev pub IsRunOfUntil : RunKind → NetModel → NetModel → CrowdModel → RunSpec → List (List Meeting) → CrowdModel
     → Type 0
