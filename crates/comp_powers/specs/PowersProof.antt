@@ -18,6 +18,8 @@ use Rattle.comp_powers_leaf.specs.declared.role.Role.{Role}
 use Rattle.comp_powers_leaf.specs.declared.role.Role.TheVariants.{Low, High, Nothing, Piece, Plus, Debtor, Token}
 use Rattle.comp_powers_leaf.specs.PowersLeaf.{roles, HasRange, owed, coefficient_of, chain_of, worth, role_at, place, powers_moves, powers_leaf_of}
 use Rattle.comp_powers_leaf.specs.PowersLayers.{powers_kind, powers_weights}
+use Rattle.comp_powers.specs.declared.values.Amount.{Amount}
+use Rattle.comp_powers.specs.declared.values.Amount.TheVariants.{Worth, Owed, Lost, Ready}
 
 abbrev pub powers_layers_of : List ℤ → ℕ → List Layer
 powers_layers_of coefs k = sorted_layers (powers_moves coefs k) (powers_kind coefs k) 0 (powers_weights coefs k)
@@ -109,6 +111,13 @@ minus_credit coefs k r = neg_ℤ (credit coefs k r)
 
 abbrev pub minus_worth : List ℤ → ℕ → Role → ℤ
 minus_worth coefs k r = neg_ℤ (worth coefs k r)
+
+-- what a node counts a state for
+abbrev pub amount_of : List ℤ → ℕ → Amount → Role → ℤ
+amount_of coefs k Worth = worth coefs k
+amount_of coefs k Owed = minus_worth coefs k
+amount_of coefs k Lost = minus_credit coefs k
+amount_of coefs k Ready = minus_ready
 
 abbrev pub low_mix : List ℤ → ℕ → LeafModel → Bool → List ℤ
 low_mix coefs k leaf true =

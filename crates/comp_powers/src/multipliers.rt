@@ -9,7 +9,7 @@ ghost use Rattle.comp_trees.specs.LeaderTree.{weighed_node, company_of};
 ghost use Rattle.comp_powers.specs.PowersProof.{AreStates, hubs, alone_zero, no_leak_mix, helped_mix, no_hub_mix};
 ghost use Rattle.comp_powers.specs.PowersProof.{high_mix, few_mix, low_mix};
 
-use crate::values::{lost, owed, ready, same, size, sizes, worths, wrong};
+use crate::values::{Amount, amounts, same, size, sizes, wrong};
 use crate::weights::push_if;
 use cert_base::{Node, can_meet};
 use comp_powers_leaf::Role;
@@ -199,7 +199,7 @@ fn high_true(
     requires { AreStates leaf.now coefs.now k roles.now }
     ensures { IfOk result (λ node. node ≡ weighed_node (high_mix coefs.now k leaf.now true)) }
 {
-    let worths = worths(alloc, leaf, coefs, k, roles)?;
+    let worths = amounts(alloc, leaf, coefs, k, roles, Amount::Worth)?;
     let own = high_own(alloc, leaf, worths.as_slice())?;
     mixed(alloc, worths.as_slice(), 0, 1, own.as_slice())
 }
@@ -251,7 +251,7 @@ pub(crate) fn few(
     requires { AreStates leaf.now coefs.now k roles.now }
     ensures { IfOk result (λ node. node ≡ weighed_node (few_mix coefs.now k leaf.now)) }
 {
-    let ready = ready(alloc, leaf, coefs, k, roles)?;
+    let ready = amounts(alloc, leaf, coefs, k, roles, Amount::Ready)?;
     let out = same(alloc, leaf, -1)?;
     let ones = vec![in alloc; 1i64; k as usize]?;
     let own = low_own(alloc, leaf, 0, out.as_slice(), ones.as_slice(), &[-1])?;
@@ -295,8 +295,8 @@ fn low_false(
     requires { AreStates leaf.now coefs.now k roles.now }
     ensures { IfOk result (λ node. node ≡ weighed_node (low_mix coefs.now k leaf.now false)) }
 {
-    let owed = owed(alloc, leaf, coefs, k, roles)?;
-    let lost = lost(alloc, leaf, coefs, k, roles)?;
+    let owed = amounts(alloc, leaf, coefs, k, roles, Amount::Owed)?;
+    let lost = amounts(alloc, leaf, coefs, k, roles, Amount::Lost)?;
     let sizes = sizes(alloc, k)?;
     let last = nothing_own(alloc, leaf, lost.as_slice())?;
     let range = size(k);

@@ -5,7 +5,7 @@ ghost use Rattle.std.specs.List.{range_with_len};
 ghost use Rattle.cert_base.specs.FactsAndCases.{states_of};
 ghost use Rattle.comp_powers_leaf.specs.declared.limits.TheConstants.{RANGE_LIMIT};
 ghost use Rattle.comp_powers_leaf.specs.PowersLeaf.{worth, role_at, IsRole, HasRange, roles as all_roles};
-ghost use Rattle.comp_powers.specs.PowersProof.{by_role, credit, minus_credit, minus_worth, minus_ready, minus_wrong};
+ghost use Rattle.comp_powers.specs.PowersProof.{by_role, credit, amount_of, minus_ready, minus_wrong};
 ghost use Rattle.comp_powers.specs.PowersProof.{AreStates};
 
 use comp_powers_leaf::{Role, owed_by, two_to};
@@ -68,31 +68,39 @@ fn role_in(coefs: &[i64], k: u32, roles: &[Role], q: u16) -> Role
     roles[usize::from(q)]
 }
 
-fn worth_at(coefs: &[i64], k: u32, roles: &[Role], q: u16) -> i64
-    requires range { HasRange coefs.now k }
-    requires roles { roles.now ≡ all_roles coefs.now k }
-    requires state { q < length roles.now }
-    ensures { result ≡ by_role coefs.now k (worth coefs.now k) q }
-{
-    worth_of(coefs, k, role_in(coefs, k, roles, q))
+/// What a node counts a state for.
+#[derive(Clone, Copy)]
+pub(crate) enum Amount {
+    /// What it is worth.
+    Worth,
+    /// Minus that.
+    Owed,
+    /// Minus that, but 0 for hubs and debtors.
+    Lost,
+    /// -1, but 0 for those that wait.
+    Ready,
 }
 
-fn owed_at(coefs: &[i64], k: u32, roles: &[Role], q: u16) -> i64
+fn amount_of(coefs: &[i64], k: u32, amount: Amount, role: Role) -> i64
     requires range { HasRange coefs.now k }
-    requires roles { roles.now ≡ all_roles coefs.now k }
-    requires state { q < length roles.now }
-    ensures { result ≡ by_role coefs.now k (minus_worth coefs.now k) q }
+    requires there { IsRole coefs.now k role }
+    ensures { result ≡ amount_of coefs.now k amount role }
 {
-    -worth_of(coefs, k, role_in(coefs, k, roles, q))
+    match amount {
+        Amount::Worth => worth_of(coefs, k, role),
+        Amount::Owed => -worth_of(coefs, k, role),
+        Amount::Lost => -credit_of(coefs, k, role),
+        Amount::Ready => ready_of(role),
+    }
 }
 
-fn lost_at(coefs: &[i64], k: u32, roles: &[Role], q: u16) -> i64
+fn amount_at(coefs: &[i64], k: u32, roles: &[Role], amount: Amount, q: u16) -> i64
     requires range { HasRange coefs.now k }
     requires roles { roles.now ≡ all_roles coefs.now k }
     requires state { q < length roles.now }
-    ensures { result ≡ by_role coefs.now k (minus_credit coefs.now k) q }
+    ensures { result ≡ by_role coefs.now k (amount_of coefs.now k amount) q }
 {
-    -credit_of(coefs, k, role_in(coefs, k, roles, q))
+    amount_of(coefs, k, amount, role_in(coefs, k, roles, q))
 }
 
 fn wrong_at(leaf: &Leaf, b: bool, q: u16) -> i64
@@ -110,80 +118,21 @@ pub(crate) fn same(alloc: Global, leaf: &Leaf, value: i64) -> Result<Vec<i64>, N
     Ok(flows)
 }
 
-/// What they are worth.
-pub(crate) fn worths(
+/// What the states are counted for.
+pub(crate) fn amounts(
     alloc: Global,
     leaf: &Leaf,
     coefs: &[i64],
     k: u32,
     roles: &[Role],
-) -> Result<Vec<i64>, NoMemory>
-    requires { AreStates leaf.now coefs.now k roles.now }
-    ensures { IfOk result (λ flows. flows.items ≡ map (by_role coefs.now k (worth coefs.now k)) (states_of leaf.now)) }
-{
-    let flows = (0..leaf.state_count())
-        .map(|q| worth_at(coefs, k, roles, q))
-        .collect(alloc)?;
-    Ok(flows)
-}
-
-/// Minus what they are worth.
-pub(crate) fn owed(
-    alloc: Global,
-    leaf: &Leaf,
-    coefs: &[i64],
-    k: u32,
-    roles: &[Role],
+    amount: Amount,
 ) -> Result<Vec<i64>, NoMemory>
     requires { AreStates leaf.now coefs.now k roles.now }
     ensures { IfOk result (λ flows.
-        flows.items ≡ map (by_role coefs.now k (minus_worth coefs.now k)) (states_of leaf.now)) }
+        flows.items ≡ map (by_role coefs.now k (amount_of coefs.now k amount)) (states_of leaf.now)) }
 {
     let flows = (0..leaf.state_count())
-        .map(|q| owed_at(coefs, k, roles, q))
-        .collect(alloc)?;
-    Ok(flows)
-}
-
-/// Minus what they are worth, but 0 for hubs and debtors.
-pub(crate) fn lost(
-    alloc: Global,
-    leaf: &Leaf,
-    coefs: &[i64],
-    k: u32,
-    roles: &[Role],
-) -> Result<Vec<i64>, NoMemory>
-    requires { AreStates leaf.now coefs.now k roles.now }
-    ensures { IfOk result (λ flows.
-        flows.items ≡ map (by_role coefs.now k (minus_credit coefs.now k)) (states_of leaf.now)) }
-{
-    let flows = (0..leaf.state_count())
-        .map(|q| lost_at(coefs, k, roles, q))
-        .collect(alloc)?;
-    Ok(flows)
-}
-
-fn ready_at(coefs: &[i64], k: u32, roles: &[Role], q: u16) -> i64
-    requires roles { roles.now ≡ all_roles coefs.now k }
-    requires state { q < length roles.now }
-    ensures { result ≡ by_role coefs.now k minus_ready q }
-{
-    ready_of(role_in(coefs, k, roles, q))
-}
-
-/// -1, but 0 for those that wait.
-pub(crate) fn ready(
-    alloc: Global,
-    leaf: &Leaf,
-    coefs: &[i64],
-    k: u32,
-    roles: &[Role],
-) -> Result<Vec<i64>, NoMemory>
-    requires { AreStates leaf.now coefs.now k roles.now }
-    ensures { IfOk result (λ flows. flows.items ≡ map (by_role coefs.now k minus_ready) (states_of leaf.now)) }
-{
-    let flows = (0..leaf.state_count())
-        .map(|q| ready_at(coefs, k, roles, q))
+        .map(|q| amount_at(coefs, k, roles, amount, q))
         .collect(alloc)?;
     Ok(flows)
 }
