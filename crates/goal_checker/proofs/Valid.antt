@@ -1,9 +1,8 @@
 -- The first part that is not valid, and what is left when there is none.
-use Rattle.std.proofs.Common.{◌≡◌, ◌⊎◌, inl, inr, ℕ, ◌+◌, ◌<◌, ◌≤◌, Bool, true, false, List, length, map, get_or, refl, sym, subst, arith}
+use Rattle.std.proofs.Common.{◌≡◌, ℕ, Bool, true, false, List, length, map, sym, subst}
 use Rattle.std.specs.Prelude.{Some, slice_get, ◌↔◌, IsTrue, All}
-use Rattle.std.proofs.lemmas.Bool.{cases_lt}
 use Rattle.std.proofs.lemmas.List.Elements.{All-map, All-weaker}
-use Rattle.std.proofs.lemmas.Option.{slice_get_read, slice_get_within}
+use Rattle.std.proofs.lemmas.Option.{slice_get_within}
 use Rattle.pop_io.specs.declared.failure.Failure.{Failure}
 use Rattle.pop_io.specs.declared.failure.Failure.TheVariants.{Fault, NoMemory}
 use Rattle.pop_io.specs.Failures.{Names}
@@ -20,7 +19,7 @@ use Rattle.cert_base.specs.ValidProof.{CombinesTo}
 use Rattle.pop_checker.specs.declared.fault.Rejected.TheVariants.{Layers, Tree, Predicate}
 use Rattle.goal_checker.specs.declared.fault.StableRejected.{StableRejected}
 use Rattle.goal_checker.specs.declared.fault.StableRejected.TheVariants.{Plain, Goal}
-use Rattle.goal_checker.specs.ValidStable.{ValidPart, ArePartsValidBefore, predicate_alone, predicates_alone, ValidStableProof}
+use Rattle.goal_checker.specs.ValidStable.{ArePartsValidBefore, predicate_alone, predicates_alone, ValidStableProof}
 use Rattle.goal_checker.specs.Rejections.{IsPartRejected, IsFirstPart, IsStableRejected}
 
 module _ (net : NetModel) (proof : StableProof) (i : ℕ) (leaf : LeafModel) (part : StablePart) (before : ArePartsValidBefore net proof.leaves i) (h : slice_get net.leaves i ≡ Some leaf) (k : slice_get proof.leaves i ≡ Some part) where
@@ -42,24 +41,6 @@ first_rejected net proof p i leaf (Stable goals) (Goal j false why) before h k i
 pub first_named : (net : NetModel) (proof : StableProof) (p : PredModel) (i : ℕ) (leaf : LeafModel) (part : StablePart) (failure : Failure StableRejected) → ArePartsValidBefore net proof.leaves i → slice_get net.leaves i ≡ Some leaf → slice_get proof.leaves i ≡ Some part → Names (IsPartRejected leaf part i) failure → Names (IsStableRejected net p proof) failure
 first_named net proof p i leaf part (Fault rejected) before h k is = first_rejected net proof p i leaf part rejected before h k is
 first_named net proof p i leaf part NoMemory before h k is = tt
-
--- one leaf more
-pub one_more : (net : NetModel) (parts : List StablePart) (i : ℕ) (leaf : LeafModel) (part : StablePart) → ArePartsValidBefore net parts i → slice_get net.leaves i ≡ Some leaf → slice_get parts i ≡ Some part → ValidPart leaf part → ArePartsValidBefore net parts (i + 1)
-one_more net parts i leaf part valid h k is j other piece l h' k' = go (cases_lt j i)
-  where
-    go : (j < i) ⊎ (i ≤ j) → ValidPart other piece
-    go (inl before) = valid j other piece before h' k'
-    go (inr past) =
-        let same : j ≡ i = omega (arith, l, past) in
-        let a : slice_get net.leaves i ≡ Some other = rw same at h' in
-        let b : slice_get parts i ≡ Some piece = rw same at k' in
-        let c : leaf ≡ other = cc in
-        let d : part ≡ piece = cc in
-        subst (λ (x : LeafModel). ValidPart x piece) c (subst (λ (y : StablePart). ValidPart leaf y) d is)
-
--- the part that a walk over all parts stands at
-pub part_at : (parts items : List StablePart) (i : ℕ) (part : StablePart) → items ≡ parts → i < length items → part ≡ get_or items i part → slice_get parts i ≡ Some part
-part_at parts items i part same l is = rw same at (slice_get_read items (length items) i part refl l is)
 
 part_over : (n : ℕ) (part : StablePart) → IsPartWithin n part → (pred_of_part part).variables ≡ n
 part_over n (Silent part) within = within.pred

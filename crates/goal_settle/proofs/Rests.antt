@@ -35,7 +35,7 @@ use Rattle.cert_goals.specs.ValidGoal.{moves_of_goal, sets_of_goal}
 use Rattle.cert_goals.proofs.ValidGoals.{all_valid_hold}
 use Rattle.list_laws.proofs.Options.{item_within}
 use Rattle.net_goals.specs.OutputStable.{IsOutputStable}
-use Rattle.net_goals.proofs.Combined.{agent_right}
+use Rattle.net_laws.proofs.Combined.{agent_right}
 use Rattle.pop_checker.proofs.RightEnds.{closes_right}
 use Rattle.goal_checker.specs.ValidStable.{ValidPart, ValidStableProof, predicate_alone}
 use Rattle.goal_checker.specs.StableSound.{AreStablePreds}

@@ -26,8 +26,8 @@ use Rattle.list_laws.proofs.Options.{item_within}
 use Rattle.net_goals.specs.OutputStable.{IsOutputStable, ComesToOutput}
 use Rattle.net_goals.specs.LeafGoals.{IsLeafGoalFrom, LeafPart, parts_bound, HasLeafGoals}
 use Rattle.net_goals.proofs.Orders.{component_permuted}
-use Rattle.net_goals.proofs.Combined.{agent_right}
-use Rattle.net_goals.proofs.Led.{CanMove, as_steps, Led, lead_way}
+use Rattle.net_laws.proofs.Combined.{agent_right}
+use Rattle.net_laws.proofs.Led.{CanMove, as_steps, Led, lead_way}
 
 parts_bound-cons : (part : LeafPart) (parts : List LeafPart) (n m : ℕ) → m ≡ n → part.bound * n + parts_bound parts * m ≤ parts_bound (part ∷ parts) * n
 parts_bound-cons part parts n m e =
@@ -145,8 +145,8 @@ module _ (net : NetModel) (is : IsNet net) (tree : PredTree) (parts : List LeafP
           to : (end : List ℕ) × Goals i counts end × ReachedWithin (LeafStep leaf) (part.bound * length (component i crowd)) (component i crowd) end
           to = (goal_at i leaf part h k).reached (component i crowd) reached
 
-          led : Led net Change changes can i leaf h crowd to.0 (length to.2.0)
-          led = lead_way net Change changes can i leaf h to.2.0 crowd to.0 tuples to.2.2
+          led : Led net Change changes i leaf h (can i leaf h) crowd to.0 (length to.2.0)
+          led = lead_way net Change changes i leaf h (can i leaf h) to.2.0 crowd to.0 tuples to.2.2
 
           size : part.bound * length (component i crowd) ≡ part.bound * length crowd
           size = ap (λ n. part.bound * n) (length-map crowd (λ tuple. state_of tuple i))

@@ -1,7 +1,4 @@
 pub mod Orders
-pub mod Combined
-pub mod Led
-pub mod Moves
 pub mod Join
 pub mod Shares
 pub mod Exceptions

@@ -6,8 +6,8 @@ use Rattle.pop_fair.specs.Synchronous.{AllReact}
 use Rattle.pop_fair.proofs.Reached.{reacts_changes}
 use Rattle.pop_fair.proofs.Synchronous.{react_changes}
 use Rattle.net_goals.specs.Laws.{LeafGoalsJoin}
-use Rattle.net_goals.proofs.Led.{own_changes}
-use Rattle.net_goals.proofs.Moves.{steps_can, synchronous_can, meetings_can}
+use Rattle.net_laws.proofs.Led.{own_changes}
+use Rattle.net_laws.proofs.Moves.{steps_can, synchronous_can, meetings_can}
 use Rattle.net_goals.specs.LeafGoals.{parts_bound}
 use Rattle.net_goals.proofs.Join.{comes, fairly}
 use Rattle.net_goals.proofs.Random.{rest_randomly}

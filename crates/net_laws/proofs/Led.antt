@@ -34,11 +34,16 @@ pub record Makes (Change : Tuple → Tuple → Tuple → Tuple → Type 0) (i : 
   pub first : state_of x' i ≡ t.r
   pub second : state_of y' i ≡ t.s
 
--- each move of each leaf can be made by a change of the two tuples
+-- each move of leaf i can be made by a change of the two tuples
+abbrev pub CanMoveIn : NetModel → (Tuple → Tuple → Tuple → Tuple → Type 0) → ℕ → LeafModel → Type 0
+CanMoveIn net Change i leaf =
+    (x y : Tuple) (t : Move) → IsTuple net x → IsTuple net y → IsFor leaf t (state_of x i) (state_of y i)
+    → Makes Change i x y t
+
+-- and so can those of each leaf
 abbrev pub CanMove : NetModel → (Tuple → Tuple → Tuple → Tuple → Type 0) → Type 0
 CanMove net Change =
-    (i : ℕ) (leaf : LeafModel) (x y : Tuple) (t : Move) → slice_get net.leaves i ≡ Some leaf → IsTuple net x → IsTuple net y → IsFor leaf t (state_of x i) (state_of y i)
-    → Makes Change i x y t
+    (i : ℕ) (leaf : LeafModel) → slice_get net.leaves i ≡ Some leaf → CanMoveIn net Change i leaf
 
 -- agents a and b take a move, a as its first
 record Taken (leaf : LeafModel) (before after : List ℕ) : Type 0 where
@@ -103,7 +108,7 @@ module _ (net : NetModel) (Change : Tuple → Tuple → Tuple → Tuple → Type
       let s = to_step net Change changes crowd next tuples way.0 in
       (s, as_steps next path last (step_tuples net crowd next tuples s) way.1)
 
-  module _ (can : CanMove net Change) (i : ℕ) (leaf : LeafModel) (h : slice_get net.leaves i ≡ Some leaf) where
+  module _ (i : ℕ) (leaf : LeafModel) (h : slice_get net.leaves i ≡ Some leaf) (can : CanMoveIn net Change i leaf) where
     -- the crowd after a step that makes this one of leaf i
     Made : CrowdModel → List ℕ → Type 0
     Made crowd next = (after : CrowdModel) × Meets Change crowd after × (component i after ≡ next)
@@ -126,7 +131,7 @@ module _ (net : NetModel) (Change : Tuple → Tuple → Tuple → Tuple → Type
           let la = within k.a k.taken.p k.a_had in
           let lb = within k.b k.taken.q k.b_had in
           let for_them : IsFor leaf k.taken (state_of x i) (state_of y i) = record { number = k.number; listed = k.listed; non_silent = k.non_silent; first = state_at k.a k.taken.p k.a_had; second = state_at k.b k.taken.q k.b_had } in
-          let to = can i leaf x y k.taken h (All-get_or (IsTuple net) crowd k.a [] la tuples) (All-get_or (IsTuple net) crowd k.b [] lb tuples) for_them in (
+          let to = can x y k.taken (All-get_or (IsTuple net) crowd k.a [] la tuples) (All-get_or (IsTuple net) crowd k.b [] lb tuples) for_them in (
             slice_set (slice_set crowd k.a to.x') k.b to.y',
             record {
               a = k.a;

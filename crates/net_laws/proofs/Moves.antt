@@ -22,7 +22,7 @@ use Rattle.pop_fair.specs.Synchronous.{LeafReacts, AllReact}
 use Rattle.pop_fair.proofs.Synchronous.{none_found, reaction_reacts}
 use Rattle.list_laws.proofs.Numbers.{Tells}
 use Rattle.list_laws.proofs.Options.{same_value}
-use Rattle.net_goals.proofs.Led.{IsFor, CanMove}
+use Rattle.net_laws.proofs.Led.{IsFor, CanMove, CanMoveIn}
 
 this_leaf : (x : Tuple) (i q : ℕ) → i < length x → state_of (with_state x i q) i ≡ q
 this_leaf x i q l = get_or-set_same x i q 0 l
@@ -39,7 +39,7 @@ module _ (net : NetModel) where
   -- ---- the other leaves stay
 
   pub steps_can : CanMove net (TupleChange net)
-  steps_can i leaf x y t h hx hy f =
+  steps_can i leaf h x y t hx hy f =
       let within = slice_get_within net.leaves i leaf h in
       record {
         x' = with_state x i t.r;
@@ -52,7 +52,7 @@ module _ (net : NetModel) where
   -- ---- the other leaves react
 
   pub synchronous_can : CanMove net (AllReact net)
-  synchronous_can i leaf x y t h hx hy f =
+  synchronous_can i leaf h x y t hx hy f =
       record {
         x' = with_state (reaction net x y).0 i t.r;
         y' = with_state (reaction net x y).1 i t.s;
@@ -124,9 +124,12 @@ single_reaction leaf single n t h e =
     ap (by_move t.p t.q) (found_by leaf.moves single n t h e (find (takes_states t.p t.q) leaf.moves) refl)
     ∙ (let first : by_move t.p t.q (Some t) ≡ (t.r, t.s) = rw (eq-eqb t.p t.p refl, eq-eqb t.q t.q refl) refl in first)
 
-pub meetings_can : (net : NetModel) → IsSingle net → CanMove net (Reacts net)
-meetings_can net single i leaf x y t h hx hy f =
-    let one = All-slice_get (λ (l : LeafModel). AllPairs Differ l.moves) net.leaves i leaf single h in
+-- no two non-silent moves of the leaf take the same states
+abbrev pub IsSingleLeaf : LeafModel → Type 0
+IsSingleLeaf leaf = AllPairs Differ leaf.moves
+
+pub meeting_can : (net : NetModel) (i : ℕ) (leaf : LeafModel) → slice_get net.leaves i ≡ Some leaf → IsSingleLeaf leaf → CanMoveIn net (Reacts net) i leaf
+meeting_can net i leaf h one x y t hx hy f =
     let e = get-reactions net.leaves x y i leaf hx hy h in
     let r : leaf_reaction leaf (state_of x i) (state_of y i) ≡ (t.r, t.s) = rw (f.first, f.second) (single_reaction leaf one f.number t f.listed f.non_silent) in
     record {
@@ -136,3 +139,6 @@ meetings_can net single i leaf x y t h hx hy f =
       first = state_of-map (λ z. z.0) (reactions net.leaves x y) i (leaf_reaction leaf (state_of x i) (state_of y i)) e ∙ ap (λ z. z.0) r;
       second = state_of-map (λ z. z.1) (reactions net.leaves x y) i (leaf_reaction leaf (state_of x i) (state_of y i)) e ∙ ap (λ z. z.1) r;
     }
+
+pub meetings_can : (net : NetModel) → IsSingle net → CanMove net (Reacts net)
+meetings_can net single i leaf h = meeting_can net i leaf h (All-slice_get IsSingleLeaf net.leaves i leaf single h)

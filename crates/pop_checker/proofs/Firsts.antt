@@ -1,8 +1,7 @@
 -- The first part of a proof that is not valid.
-use Rattle.std.proofs.Common.{◌≡◌, ◌⊎◌, inl, inr, ℕ, ◌+◌, ◌<◌, ◌≤◌, Bool, true, false, List, length, get_or, refl, sym, subst, arith}
+use Rattle.std.proofs.Common.{◌≡◌, ℕ, Bool, true, false, length, sym, subst}
 use Rattle.std.specs.Prelude.{Some, slice_get, ◌↔◌, IsTrue}
-use Rattle.std.proofs.lemmas.Bool.{cases_lt}
-use Rattle.std.proofs.lemmas.Option.{slice_get_read, slice_get_within}
+use Rattle.std.proofs.lemmas.Option.{slice_get_within}
 use Rattle.pop_io.specs.declared.failure.Failure.{Failure}
 use Rattle.pop_io.specs.declared.failure.Failure.TheVariants.{Fault, NoMemory}
 use Rattle.pop_io.specs.Failures.{Names}
@@ -17,7 +16,7 @@ use Rattle.cert_base.specs.ValidProof.{ValidProof, CombinesTo}
 use Rattle.pop_checker.specs.declared.fault.Rejected.{Rejected}
 use Rattle.pop_checker.specs.declared.fault.Rejected.TheVariants.{Layers, Tree, Predicate}
 use Rattle.pop_checker.specs.Rejections.{AreValidBefore, RejectsLayers, RejectsTree, IsFirstRejected, IsRejected}
-use Rattle.pop_checker.specs.Parts.{IsRightPart, AreRightBefore, IsPartFault}
+use Rattle.pop_checker.specs.Parts.{AreRightBefore, IsPartFault}
 
 pub right-valid : (net : NetModel) (proof : Proof) (n : ℕ) → AreRightBefore net proof.leaves n → AreValidBefore net proof n
 right-valid net proof n right = λ i leaf part l h k. (right i leaf part l h k).valid
@@ -36,26 +35,8 @@ pub first_named : (net : NetModel) (proof : Proof) (p : PredModel) (i : ℕ) (le
 first_named net proof p i leaf part (Fault rejected) right h k is = first_fault net proof p i leaf part rejected right h k is
 first_named net proof p i leaf part NoMemory right h k is = tt
 
--- one leaf more
-pub one_more : (net : NetModel) (parts : List LeafProof) (i : ℕ) (leaf : LeafModel) (part : LeafProof) → AreRightBefore net parts i → slice_get net.leaves i ≡ Some leaf → slice_get parts i ≡ Some part → IsRightPart leaf part → AreRightBefore net parts (i + 1)
-one_more net parts i leaf part right h k is j other piece l h' k' = go (cases_lt j i)
-  where
-    go : (j < i) ⊎ (i ≤ j) → IsRightPart other piece
-    go (inl before) = right j other piece before h' k'
-    go (inr past) =
-        let same : j ≡ i = omega (arith, l, past) in
-        let a : slice_get net.leaves i ≡ Some other = rw same at h' in
-        let b : slice_get parts i ≡ Some piece = rw same at k' in
-        let c : leaf ≡ other = cc in
-        let d : part ≡ piece = cc in
-        subst (λ (x : LeafModel). IsRightPart x piece) c (subst (λ (y : LeafProof). IsRightPart leaf y) d is)
-
 pub all_valid : (net : NetModel) (proof : Proof) (p : PredModel) → ValidProof net p proof → AreValidBefore net proof (length net.leaves)
 all_valid net proof p v i leaf part l h k = v.leaves i leaf part h k
-
--- the part that a walk over all parts stands at
-pub part_at : (parts items : List LeafProof) (i : ℕ) (part : LeafProof) → items ≡ parts → i < length items → part ≡ get_or items i part → slice_get parts i ≡ Some part
-part_at parts items i part same l is = rw same at (slice_get_read items (length items) i part refl l is)
 
 pub net_pred : (net : NetModel) (proof : Proof) (p : PredModel) → p.variables ≡ length net.variables → IsProofWithin (length net.variables) (length net.leaves) proof → CombinesTo net proof p → IsNetPred net proof p
 net_pred net proof p e within combines =

@@ -17,7 +17,7 @@ use Rattle.cert_base.specs.declared.layer.Layer.{Layer}
 use Rattle.cert_base.specs.ValidLayers.{moves_of_layers, IsInLayer, ValidLayers}
 use Rattle.pop_fair.specs.Synchronous.{LeafReacts}
 use Rattle.pop_fair.proofs.Synchronous.{takes_followed, none_found, found_move}
-use Rattle.pop_checker.proofs.Meetings.{IsSingleLeaf}
+use Rattle.net_laws.proofs.Moves.{IsSingleLeaf}
 
 -- ---- find in a list of lists
 

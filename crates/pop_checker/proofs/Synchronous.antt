@@ -32,7 +32,7 @@ use Rattle.pop_fair.proofs.Standing.{size_of_input}
 use Rattle.pop_fair.proofs.Synchronous.{synchronous_compute}
 use Rattle.pop_random.proofs.Settled.{unmoved}
 use Rattle.pop_checker.specs.Computes.{Computes, EndsByMeetings}
-use Rattle.pop_checker.proofs.Meetings.{IsSingleLeaf}
+use Rattle.net_laws.proofs.Moves.{IsSingleLeaf}
 use Rattle.pop_checker.proofs.Settles.{bound_of, settles}
 use Rattle.pop_checker.proofs.Fairness.{reached_states}
 use Rattle.pop_checker.proofs.LeastMoves.{least_leaf, least_is_leaf, least_single, least_valid, least_reacts, least_quiet}

@@ -1,7 +1,9 @@
 use Rattle.std.proofs.Common.{◌<◌, length, ap, arith}
 use Rattle.std.proofs.lemmas.Result.{err_from_is_err_and}
 use Rattle.goal_checker.proofs.Bounds.{bound_more}
-use Rattle.goal_checker.proofs.Valid.{first_named, one_more, part_at}
+use Rattle.net_laws.proofs.Walk.{one_more, part_at}
+use Rattle.goal_checker.specs.ValidStable.{ValidPart}
+use Rattle.goal_checker.proofs.Valid.{first_named}
 use Rattle.goal_checker.proofs.whole.check_parts.Goals as goal
 
 pub returns-in_err-more-clause-fault : goal.returns-in_err-more-clause-fault
@@ -22,7 +24,7 @@ pub loop-number-preserved : goal.loop-number-preserved
 loop-number-preserved c =
     let here = part_at c.args.proof.now.leaves c.as_slice-parts.result.now c.loop-number.number c.index-parts-number.result c.as_slice-parts.ensures c.loop-number-test.true c.index-parts-number.is in
     record {
-      valid = one_more c.args.net.now c.args.proof.now.leaves c.loop-number.number c.leaf.result.now c.index-parts-number.result c.loop-number.invariant.valid c.leaf.ensures here c.in_ok-more.ensures.valid;
+      valid = one_more ValidPart c.args.net.now c.args.proof.now.leaves c.loop-number.number c.leaf.result.now c.index-parts-number.result c.loop-number.invariant.valid c.leaf.ensures here c.in_ok-more.ensures.valid;
       so_far = bound_more c.args.proof.now.leaves c.as_slice-parts.result.now c.loop-number.number c.loop-number.bound c.in_ok-more.more _ c.index-parts-number.result c.as_slice-parts.ensures c.loop-number-test.true c.index-parts-number.is c.in_ok-more.ensures.bound.0 c.loop-number.invariant.so_far;
       small = omega (arith, c.in_ok-more.ensures.bound.1, c.loop-number.invariant.small);
     }
