@@ -1,0 +1,3 @@
+pub mod PrefixLeaf
+pub mod PrefixProof
+pub mod PrefixLaw
