@@ -27,7 +27,7 @@ use Rattle.comp_flock.proofs.TooFewNodes.{full, first_facts, first_closes, start
 use Rattle.list_laws.proofs.Ranges.{all_range, range_one_more}
 use Rattle.list_laws.proofs.Lists.{at_end}
 
-filter-all : {A : Type 0} (test : A → Bool) (xs : List A) → All (λ x. test x ≡ true) xs → filter test xs ≡ xs
+pub filter-all : {A : Type 0} (test : A → Bool) (xs : List A) → All (λ x. test x ≡ true) xs → filter test xs ≡ xs
 filter-all test [] all = refl
 filter-all test (x ∷ xs) all =
     let here = All-head (λ x. test x ≡ true) x xs all in

@@ -8,6 +8,7 @@ pub mod Starts
 pub mod Offsets
 pub mod Formed
 pub mod PowerFound
+pub mod FullNodes
 pub mod EnoughNodes
 pub mod TooFewNodes
 pub mod Small

@@ -31,7 +31,7 @@ sized false (pos n) e = refl
 sized false (negsuc n) e = absurd (let f : false ≡ true = e in cc)
 
 module _ (says : Bool) (c : ℕ) (coefs : List ℤ) (are : list_all (is_counted says c) coefs ≡ true) where
-  counted : (i : ℕ) → i < length coefs → (has_sign says (get_or coefs i (pos 0)) ≡ true) × (is_size c (nat_abs (get_or coefs i (pos 0))) ≡ true)
+  pub counted : (i : ℕ) → i < length coefs → (has_sign says (get_or coefs i (pos 0)) ≡ true) × (is_size c (nat_abs (get_or coefs i (pos 0))) ≡ true)
   unfolding is_counted
   counted i l =
       let a = get_or coefs i (pos 0) in

@@ -12,7 +12,7 @@ use Rattle.comp_flock.specs.FlockLeaf.{flock_state_count}
 use Rattle.comp_flock.specs.FlockProof.{flock_weight, flock_layers_of, for_states, offset_steps}
 use Rattle.comp_flock.proofs.Layers.{weight-full, weight-power}
 
-weight_within : (k q : ℕ) → (pos 0 ≤ℤ flock_weight k q) × (flock_weight k q ≤ℤ pos 2)
+pub weight_within : (k q : ℕ) → (pos 0 ≤ℤ flock_weight k q) × (flock_weight k q ≤ℤ pos 2)
 weight_within k q = by (q == 0) (q == k + 1)
   where
     by : (a b : Bool) → (pos 0 ≤ℤ (if a then pos 1 else (if b then pos 0 else pos 2))) × ((if a then pos 1 else (if b then pos 0 else pos 2)) ≤ℤ pos 2)
@@ -27,7 +27,7 @@ steps_are k some =
     omega (arith, spread, sum)
 
 -- without a doubling: 2^k is 1, and the other state is `0`
-none-within : (q : ℕ) → q < 2 → (pos 0 ≤ℤ flock_weight 0 q) × (flock_weight 0 q ≤ℤ pos 1)
+pub none-within : (q : ℕ) → q < 2 → (pos 0 ≤ℤ flock_weight 0 q) × (flock_weight 0 q ≤ℤ pos 1)
 none-within zero l = (omega (arith, ints), omega (arith, ints))
 none-within (suc zero) l = (omega (arith, ints), omega (arith, ints))
 none-within (suc (suc q)) l = absurd (omega arith)

@@ -44,17 +44,17 @@ use Rattle.comp_flock.proofs.EnoughNodes.{is_plain}
 abbrev pub full : ℕ → List ℕ
 full k = (k + 1) ∷ []
 
-in-yes : (k : ℕ) → is_in (full k) (k + 1) ≡ true
+pub in-yes : (k : ℕ) → is_in (full k) (k + 1) ≡ true
 in-yes k = rw (eq-eqb (k + 1) (k + 1) refl) refl
 
-in-no : (k q : ℕ) → q ≢ k + 1 → is_in (full k) q ≡ false
+pub in-no : (k q : ℕ) → q ≢ k + 1 → is_in (full k) q ≡ false
 in-no k q ne = let e = ne_eqb (k + 1) q (λ e. ne (sym e)) in rw e refl
 
 -- whether a move puts into the set, and takes from it
 doubling-takes : (k i : ℕ) → i < k → takes_from (full k) (doubling_move i) ≡ false
 doubling-takes k i l = let e = in-no k (i + 1) (λ e. omega arith) in rw e refl
 
-conversion-takes : (k q : ℕ) → takes_from (full k) (conversion_move k q) ≡ true
+pub conversion-takes : (k q : ℕ) → takes_from (full k) (conversion_move k q) ≡ true
 conversion-takes k q = let e = in-yes k in rw e refl
 
 last-puts : (k i : ℕ) → i + 1 ≡ k → puts_into (full k) (doubling_move i) ≡ true
@@ -90,7 +90,7 @@ size-most k q = go (q == k + 1)
     go true = omega (arith, ints)
     go false = omega (arith, ints)
 
-or_yes : (c : Bool) → ((c || true) && true) ≡ true
+pub or_yes : (c : Bool) → ((c || true) && true) ≡ true
 or_yes true = refl
 or_yes false = refl
 

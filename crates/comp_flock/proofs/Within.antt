@@ -18,7 +18,7 @@ use Rattle.comp_flock.proofs.Powers.{size-le, power_small}
 use Rattle.list_laws.proofs.Ranges.{all_range}
 use Rattle.list_laws.proofs.Numbers.{size-neg}
 
-weight-small : (k q : ℕ) → IsSmall (flock_weight k q)
+pub weight-small : (k q : ℕ) → IsSmall (flock_weight k q)
 weight-small k q = go (q == 0) (q == k + 1)
   where
     go : (a b : Bool) → IsSmall (if a then pos 1 else (if b then pos 0 else pos 2))
@@ -33,7 +33,7 @@ below-small k q n l = go (q == k + 1)
     go true = omega arith
     go false = omega arith
 
-mix-long : (flows : List ℤ) (wrong opened : ℤ) (own : List ℤ) → length (mix_over flows wrong opened own) ≡ length flows + length own + 4
+pub mix-long : (flows : List ℤ) (wrong opened : ℤ) (own : List ℤ) → length (mix_over flows wrong opened own) ≡ length flows + length own + 4
 mix-long flows wrong opened own =
     let base = flows ++ pos 0 ∷ pos 0 ∷ wrong ∷ [] in
     omega (arith, length-append (base ++ opened ∷ []) own, length-append base (opened ∷ []), length-append flows (pos 0 ∷ pos 0 ∷ wrong ∷ []))
@@ -60,7 +60,7 @@ never-short k l =
     omega (arith, mix-long (zeros (k + 2)) (pos 1) (pos 0) (zeros (k + 1) ++ negsuc 0 ∷ []), length-replicate (k + 2) (pos 0), length-append (zeros (k + 1)) (negsuc 0 ∷ []), length-replicate (k + 1) (pos 0))
 
 -- a node of few multipliers
-mix-within : (flows : List ℤ) (wrong opened : ℤ) (own : List ℤ) (n m : ℕ) → length flows ≤ n → length own ≤ m → n + m ≤ 200 → All IsSmall flows → IsSmall wrong → IsSmall opened → All IsSmall own → IsNodeWithin (weighed_node (mix_over flows wrong opened own))
+pub mix-within : (flows : List ℤ) (wrong opened : ℤ) (own : List ℤ) (n m : ℕ) → length flows ≤ n → length own ≤ m → n + m ≤ 200 → All IsSmall flows → IsSmall wrong → IsSmall opened → All IsSmall own → IsNodeWithin (weighed_node (mix_over flows wrong opened own))
 mix-within flows wrong opened own n m ln lm few fs w o os =
     let base = flows ++ pos 0 ∷ pos 0 ∷ wrong ∷ [] in
     let all_base = All-append IsSmall flows (pos 0 ∷ pos 0 ∷ wrong ∷ []) fs (All-cons IsSmall (pos 0) (pos 0 ∷ wrong ∷ []) (omega arith) (All-cons IsSmall (pos 0) (wrong ∷ []) (omega arith) (one wrong w))) in

@@ -1,0 +1,106 @@
+-- The layer of a built leaf of prefixes is valid, and how many steps per agent it allows.
+use Rattle.std.proofs.Common.{◌≡◌, ◌∙◌, inl, inr, subst, ℕ, zero, suc, ◌+◌, ◌<◌, ◌≤◌, Bool, true, false, List, [], ◌∷◌, length, map, refl, ap, sym, zero-add, arith}
+use Rattle.std.specs.Prelude.{ℤ, pos, ◌≤ℤ◌, ◌==◌}
+use Rattle.std.specs.List.{range_with_len}
+use Rattle.std.proofs.lemmas.Int.{ints}
+use Rattle.std.proofs.lemmas.Bool.{cases_eq, eq-eqb, ne_eqb}
+use Rattle.std.proofs.lemmas.List.Elements.{All-nil, All-cons}
+use Rattle.std.proofs.lemmas.List.FromFn.{length-map-range_with_len, get_or-map-range_with_len}
+use Rattle.std.proofs.lemmas.List.Sums.{sum_by-cons}
+use Rattle.pop_net.specs.declared.leaf.Move.{Move}
+use Rattle.pop_net.specs.LeafModel.{LeafModel}
+use Rattle.cert_base.specs.declared.layer.Layer.{Layer}
+use Rattle.cert_base.specs.ProofBound.{weights_spread, layers_bound}
+use Rattle.cert_base.specs.ValidLayers.{weight_at, IsLower, ValidLayers}
+use Rattle.cert_base.proofs.Spread.{spread_of}
+use Rattle.comp_trees.proofs.SortedLayers.{AreKinds, sorted_layers-valid}
+use Rattle.comp_trees.proofs.TrapNodes.{places-all}
+use Rattle.comp_flock.specs.FlockLeaf.{flock_state_count}
+use Rattle.comp_flock.specs.FlockProof.{flock_weight, for_states, offset_steps}
+use Rattle.comp_flock.proofs.Layers.{weight-full, weight-power}
+use Rattle.comp_flock.proofs.Steps.{weight_within, none-within}
+use Rattle.comp_prefix.specs.PrefixLeaf.{worth_in, full_move, join_move, prefix_moves, prefix_state_name, prefix_leaf_with}
+use Rattle.comp_prefix.specs.PrefixProof.{prefix_layers}
+use Rattle.comp_prefix.proofs.Chain.{IsChain}
+use Rattle.comp_prefix.proofs.MoveLists.{all_moves}
+use Rattle.comp_prefix.proofs.Meetings.{join-some}
+
+abbrev weights : ℕ → List ℤ
+weights k = map (flock_weight k) (range_with_len 0 (k + 2))
+
+weight-is : (k q : ℕ) → q < k + 2 → weight_at (weights k) q ≡ flock_weight k q
+weight-is k q l = get_or-map-range_with_len (flock_weight k) 0 (k + 2) q q (pos 0) l (zero-add q)
+
+weight-some : (k q : ℕ) → q ≤ k → pos 1 ≤ℤ flock_weight k q
+weight-some k zero l = omega (arith, ints)
+weight-some k (suc i) l =
+    let e = ap (flock_weight k) (let e : suc i ≡ i + 1 = omega arith in e) ∙ weight-power k i (omega (arith, l)) in
+    omega (arith, ints, e)
+
+weight-two : (k q : ℕ) → 1 ≤ q → q ≤ k → flock_weight k q ≡ pos 2
+weight-two k zero l m = absurd (omega (arith, l))
+weight-two k (suc i) l m = ap (flock_weight k) (let e : suc i ≡ i + 1 = omega arith in e) ∙ weight-power k i (omega (arith, m))
+
+module _ (ws : List ℕ) (c top k : ℕ) (is : IsChain ws c top k) where
+  lower-full : (p q : ℕ) → q ≤ p → p ≤ k → IsLower (weights k) (full_move k p q)
+  lower-full p q l m =
+      let a = weight-is k p (omega (arith, m)) in
+      let b = weight-is k q (omega (arith, l, m)) in
+      let f = weight-is k (k + 1) (omega arith) ∙ weight-full k in
+      let sp = weight-some k p m in
+      let sq = weight-some k q (omega (arith, l, m)) in
+      omega (arith, ints, a, b, f, sp, sq)
+
+  lower-join : (p q : ℕ) → q ≤ p → p ≤ k → worth_in ws p + worth_in ws q ≡ worth_in ws (p + 1) → IsLower (weights k) (join_move p q)
+  lower-join p q l m e =
+      let some = join-some ws c top k is p q l m e in
+      let a = weight-is k p (omega (arith, m)) ∙ weight-two k p (omega (arith, some, l)) m in
+      let b = weight-is k q (omega (arith, l, m)) ∙ weight-two k q some (omega (arith, l, m)) in
+      let r = weight-is k (p + 1) (omega (arith, m)) in
+      let most = (weight_within k (p + 1)).1 in
+      let s = weight-is k 0 (omega arith) in
+      omega (arith, ints, a, b, r, most, s)
+
+  lower-conversion : (q : ℕ) → q ≤ k → IsLower (weights k) (full_move k (k + 1) q)
+  lower-conversion q l =
+      let f = weight-is k (k + 1) (omega arith) ∙ weight-full k in
+      let b = weight-is k q (omega (arith, l)) in
+      let some = weight-some k q l in
+      omega (arith, ints, f, b, some)
+
+  module _ (coefs : List ℤ) (says : Bool) where
+    abbrev leaf : LeafModel
+    leaf = prefix_leaf_with coefs says c ws k
+
+    are_kinds : AreKinds leaf (λ t. 0) (weights k ∷ [])
+    are_kinds = record {
+      long = All-cons (λ w. length w ≡ length leaf.states) (weights k) [] (length-map-range_with_len (flock_weight k) 0 (k + 2) ∙ sym (length-map-range_with_len (prefix_state_name ws) 0 (k + 2))) (All-nil (λ w. length w ≡ length leaf.states));
+      kinds = all_moves ws c k (λ t. 0 < 1) (λ p q l m n. omega arith) (λ p q l m n e. omega arith) (λ q l. omega arith);
+      lower = all_moves ws c k (IsLower (weights k)) (λ p q l m n. lower-full p q l m) (λ p q l m n e. lower-join p q l m e) (λ q l. lower-conversion q l);
+      wakes = λ t u ct cu lt lu l. absurd (omega (arith, l));
+    }
+
+    pub layers-valid : ValidLayers leaf (prefix_layers leaf k)
+    layers-valid =
+        let listed = places-all 0 (λ (t : Move). 0 == 0) (prefix_moves ws c k) (all_moves ws c k (λ t. true ≡ true) (λ p q l m n. refl) (λ p q l m n e. refl) (λ q l. refl)) in
+        subst (λ ns. ValidLayers leaf (record { moves = ns; weights = weights k } ∷ [])) listed (sorted_layers-valid leaf (λ t. 0) (weights k ∷ []) are_kinds)
+
+-- ---- steps
+
+more-steps : (leaf : LeafModel) (k : ℕ) → 1 ≤ k → layers_bound (prefix_layers leaf k) ≡ 2
+more-steps leaf k some =
+    let spread : weights_spread (for_states k (flock_weight k)) ≡ 2 = spread_of (flock_weight k) (flock_state_count k) (pos 0) (pos 2) (k + 1) 1 (omega arith) (omega (arith, some)) (weight-full k) (weight-power k 0 (omega (arith, some))) (λ q l. weight_within k q) in
+    let sum : layers_bound (prefix_layers leaf k) ≡ weights_spread (for_states k (flock_weight k)) + 0 = sum_by-cons (λ (layer : Layer). weights_spread layer.weights) (record { moves = range_with_len 0 (length leaf.moves); weights = for_states k (flock_weight k) }) [] in
+    omega (arith, spread, sum)
+
+one-step : (leaf : LeafModel) → layers_bound (prefix_layers leaf 0) ≡ 1
+one-step leaf =
+    let spread : weights_spread (for_states 0 (flock_weight 0)) ≡ 1 = spread_of (flock_weight 0) 2 (pos 0) (pos 1) 1 0 (omega arith) (omega arith) refl refl none-within in
+    let sum : layers_bound (prefix_layers leaf 0) ≡ weights_spread (for_states 0 (flock_weight 0)) + 0 = sum_by-cons (λ (layer : Layer). weights_spread layer.weights) (record { moves = range_with_len 0 (length leaf.moves); weights = for_states 0 (flock_weight 0) }) [] in
+    omega (arith, spread, sum)
+
+pub steps-are : (leaf : LeafModel) (k : ℕ) → layers_bound (prefix_layers leaf k) ≡ offset_steps k
+steps-are leaf k = elim (cases_eq k 0) [
+  | inl e ↦ (let zero : (k == 0) ≡ true = eq-eqb k 0 e in rw zero (ap (λ j. layers_bound (prefix_layers leaf j)) e ∙ one-step leaf))
+  | inr ne ↦ (let some : (k == 0) ≡ false = ne_eqb k 0 ne in rw some (more-steps leaf k (omega (arith, ne))))
+]
