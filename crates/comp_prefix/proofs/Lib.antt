@@ -6,3 +6,7 @@ pub mod Layers
 pub mod Starts
 pub mod Formed
 pub mod Covered
+pub mod Blocks
+pub mod EnoughNodes
+pub mod TooFewNodes
+pub mod Closing

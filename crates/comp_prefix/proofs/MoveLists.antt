@@ -56,7 +56,7 @@ module _ (ws : List ℕ) (c k : ℕ) where
       go false e true h = All-cons P (join_move p q) [] (g (leb-false c (w p + w q) e) (eqb-true (w p + w q) (w (p + 1)) h)) (All-nil P)
       go false e false h = All-nil P
 
-  all_pairs : (P : Move → Type 0) → ((p q : ℕ) → q ≤ p → p ≤ k → c ≤ w p + w q → P (full_move k p q)) → ((p q : ℕ) → q ≤ p → p ≤ k → w p + w q < c → w p + w q ≡ w (p + 1) → P (join_move p q)) → All P pairs
+  pub all_pairs : (P : Move → Type 0) → ((p q : ℕ) → q ≤ p → p ≤ k → c ≤ w p + w q → P (full_move k p q)) → ((p q : ℕ) → q ≤ p → p ≤ k → w p + w q < c → w p + w q ≡ w (p + 1) → P (join_move p q)) → All P pairs
   all_pairs P f g =
       all_flat P (moves_from ws c k) (range_with_len 0 (k + 1))
       (all_range (λ p. All P (moves_from ws c k p)) 0 (k + 1) (λ p a l.

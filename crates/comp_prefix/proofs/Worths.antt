@@ -37,7 +37,7 @@ later-none f o (suc m) at =
     let same : total f (range_with_len (1 + o + 1) m) ≡ total f (range_with_len (1 + (o + 1)) m) = ap (λ a. total f (range_with_len a m)) (let e : 1 + o + 1 ≡ 1 + (o + 1) = omega arith in e) in
     omega (arith, ints, rest, here, same)
 
-total-split : (f : ℕ → ℤ) (a n m : ℕ) → total f (range_with_len a (n + m)) ≡ (total f (range_with_len a n) +ℤ total f (range_with_len (a + n) m))
+pub total-split : (f : ℕ → ℤ) (a n m : ℕ) → total f (range_with_len a (n + m)) ≡ (total f (range_with_len a n) +ℤ total f (range_with_len (a + n) m))
 total-split f a zero m =
     let same : total f (range_with_len a (zero + m)) ≡ total f (range_with_len (a + zero) m) = ap (λ n. total f (range_with_len a n)) (zero-add m) ∙ ap (λ b. total f (range_with_len b m)) (let e : a ≡ a + zero = omega arith in e) in
     omega (arith, ints, same)
