@@ -16,14 +16,15 @@ use Rattle.cert_base.specs.Rows.{input_row}
 use Rattle.cert_base.specs.FactsAndCases.{states_of, flow, base_list, two_agents_fact, wrong_output_fact, absent_fact, occurs_fact, alone_fact, not_twice, can_meet_in}
 use Rattle.cert_base.specs.Closes.{cases_of, ClosesUnder, refuted, by_cases, no_case, next_case, Closes}
 use Rattle.comp_trees.specs.LeaderTree.{weighed_node}
-use Rattle.comp_flock.specs.FlockLeaf.{says_enough, enough_for, flock_leaf_with}
+use Rattle.comp_flock.specs.FlockLeaf.{says_enough, enough_for, flock_state_name, flock_moves, flock_leaf_with}
 use Rattle.comp_flock.specs.FlockProof.{full_size, few_mix as few_mix_with, converted_mix, first_mix, start_mix as start_mix_with, never_mix, enough_tree, too_few_tree, offset_pred_of}
 use Rattle.comp_flock.proofs.MoveLists.{doubles, converts}
 use Rattle.comp_flock.proofs.Formed.{states-long}
 use Rattle.comp_flock.proofs.Opened.{opened_row, opened_constant, opened-is}
 use Rattle.comp_flock.proofs.Offsets.{IsFilled}
-use Rattle.comp_flock.proofs.EnoughNodes.{few_facts, few_closes, converted_facts, converted_closes}
-use Rattle.comp_flock.proofs.TooFewNodes.{full, first_facts, first_closes, start_facts, start_closes, never_facts, never_long, never_closes}
+use Rattle.comp_flock.proofs.EnoughNodes.{few_facts, few_closes, is-counting}
+use Rattle.comp_flock.proofs.FullNodes.{full, IsCounting, converted_facts, converted_closes, start_facts, start_closes, never_facts, never_long, never_closes}
+use Rattle.comp_flock.proofs.TooFewNodes.{first_facts, first_closes, length-taken}
 use Rattle.list_laws.proofs.Ranges.{all_range, range_one_more}
 use Rattle.list_laws.proofs.Lists.{at_end}
 
@@ -50,6 +51,12 @@ module _ (coefs : List ℤ) (bound : ℤ) (k : ℕ) (helpers : List ℕ) (most :
 
   abbrev pred : PredModel
   pred = offset_pred_of coefs bound
+
+  abbrev names : List (List ℕ)
+  names = map flock_state_name (range_with_len 0 (k + 2))
+
+  counting : IsCounting coefs bound k names (flock_moves k) helpers
+  counting = is-counting coefs bound k helpers is
 
   abbrev opened : Bool → Fact
   opened b = Ge (input_row (opened_row coefs b) (opened_constant bound b))
@@ -140,7 +147,7 @@ module _ (coefs : List ℤ) (bound : ℤ) (k : ℕ) (helpers : List ℕ) (most :
       short false = omega arith
 
   abbrev met : List Fact
-  met = converted_facts coefs bound k helpers is extra
+  met = converted_facts coefs bound k names (flock_moves k) helpers counting extra
 
   length_met : length met ≤ k + 3
   length_met = omega (arith, length-append (map (absent_fact leaf) (range_with_len 0 (k + 1))) extra, length-map-range_with_len (absent_fact leaf) 0 (k + 1), length_extra)
@@ -153,7 +160,7 @@ module _ (coefs : List ℤ) (bound : ℤ) (k : ℕ) (helpers : List ℕ) (most :
       let last = weighed_node (converted_mix k) in
       let first : ClosesUnder leaf 2 (few_at 0) (map Twin (range_with_len 1 k) ++ weighed_node (few_mix k) ∷ last ∷ []) (last ∷ []) = close_few 0 k (last ∷ []) (zero-add k) in
       let second : ClosesUnder leaf 2 (enough ++ met) (last ∷ []) [] =
-      refuted 2 (enough ++ met) last [] (record { depth = omega arith; fact_count = omega (arith, length-append enough met, length_enough, length_met) }) (converted_closes coefs bound k helpers is extra) in
+      refuted 2 (enough ++ met) last [] (record { depth = omega arith; fact_count = omega (arith, length-append enough met, length_enough, length_met) }) (converted_closes coefs bound k names (flock_moves k) helpers counting extra) in
       by_cases 0 (base says) (Open (k + 2 + 1)) _ [] ((opened says ∷ []) ∷ [])
       (record { depth = omega arith; fact_count = omega (arith, length_base says) }) (opens says)
       (next_case 1 (base says) (opened says ∷ []) [] _ [] []
@@ -175,10 +182,10 @@ module _ (coefs : List ℤ) (bound : ℤ) (k : ℕ) (helpers : List ℕ) (most :
   firsts = first_facts coefs bound k helpers is
 
   abbrev starts : List Fact
-  starts = start_facts coefs bound k helpers is
+  starts = start_facts coefs bound k names (flock_moves k) helpers counting
 
   abbrev nevers : List Fact
-  nevers = never_facts coefs bound k helpers is
+  nevers = never_facts coefs bound k names (flock_moves k) helpers counting
 
   siphon_is : cases_of leaf lacking (Siphon (full k)) ≡ Some (firsts ∷ starts ∷ nevers ∷ [])
   siphon_is = rw in_states refl
@@ -191,9 +198,9 @@ module _ (coefs : List ℤ) (bound : ℤ) (k : ℕ) (helpers : List ℕ) (most :
       let first : ClosesUnder leaf 2 (lacking ++ firsts) (one ∷ two ∷ three ∷ []) (two ∷ three ∷ []) =
       refuted 2 (lacking ++ firsts) one (two ∷ three ∷ []) (record { depth = omega arith; fact_count = omega (arith, length-append lacking firsts, length_lacking) }) (first_closes coefs bound k helpers is) in
       let second : ClosesUnder leaf 2 (lacking ++ starts) (two ∷ three ∷ []) (three ∷ []) =
-      refuted 2 (lacking ++ starts) two (three ∷ []) (record { depth = omega arith; fact_count = omega (arith, length-append lacking starts, length_lacking) }) (start_closes coefs bound k helpers is) in
+      refuted 2 (lacking ++ starts) two (three ∷ []) (record { depth = omega arith; fact_count = omega (arith, length-append lacking starts, length_lacking) }) (start_closes coefs bound k names (flock_moves k) helpers counting) in
       let third : ClosesUnder leaf 2 (lacking ++ nevers) (three ∷ []) [] =
-      refuted 2 (lacking ++ nevers) three [] (record { depth = omega arith; fact_count = omega (arith, length-append lacking nevers, length_lacking, never_long coefs bound k helpers is) }) (never_closes coefs bound k helpers is) in
+      refuted 2 (lacking ++ nevers) three [] (record { depth = omega arith; fact_count = omega (arith, length-append lacking nevers, length_lacking, never_long coefs bound k names (flock_moves k) helpers counting (length-taken coefs bound k helpers is)) }) (never_closes coefs bound k names (flock_moves k) helpers counting (length-taken coefs bound k helpers is)) in
       by_cases 0 (base (not says)) (Open (k + 2 + 1)) _ [] ((opened (not says) ∷ []) ∷ [])
       (record { depth = omega arith; fact_count = omega (arith, length_base (not says)) }) (opens (not says))
       (next_case 1 (base (not says)) (opened (not says) ∷ []) [] _ [] []

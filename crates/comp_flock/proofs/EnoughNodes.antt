@@ -1,4 +1,4 @@
--- The nodes of the tree where there are enough close.
+-- The node where there are too few agents without 2^k closes.
 use Rattle.std.proofs.Common.{◌≡◌, ◌≢◌, ◌⊎◌, ◌∙◌, inl, inr, subst, ℕ, zero, suc, ◌+◌, ◌^◌, ◌<◌, ◌≤◌, Bool, true, false, ◌&&◌, ◌||◌, List, [], ◌∷◌, ◌++◌, length, map, get_or, refl, ap, sym, zero-add, arith}
 use Rattle.std.specs.Prelude.{ℤ, pos, negsuc, neg_ℤ, ◌+ℤ◌, ◌-ℤ◌, ◌*ℤ◌, ◌≤ℤ◌, ◌==◌, not, All, int_le, nat_abs, if◌then◌else◌}
 use Rattle.std.specs.List.{range_with_len}
@@ -20,7 +20,7 @@ use Rattle.cert_base.proofs.WeightedSums.{weighted_sum-append, may_weigh-append,
 use Rattle.cert_base.proofs.FlowSums.{weighted_sum-map, total-same, total-none, total-neg, mul-neg, one-times}
 use Rattle.comp_trees.proofs.LeaderEnds.{absent-at, is_wrong, may_weigh-eqs}
 use Rattle.comp_trees.proofs.TrapNodes.{range-constant}
-use Rattle.comp_flock.specs.FlockLeaf.{says_enough, enough_for, size_in, flock_start, flock_moves, flock_leaf_with}
+use Rattle.comp_flock.specs.FlockLeaf.{says_enough, enough_for, size_in, flock_state_name, flock_start, flock_moves, flock_leaf_with}
 use Rattle.comp_flock.specs.FlockProof.{full_size, greatest_size, few_mix, converted_mix, offset_pred_of}
 use Rattle.comp_flock.proofs.Powers.{size-power, size-at, size-le, sizes-total, zero_le}
 use Rattle.comp_flock.proofs.MoveLists.{all_moves}
@@ -29,7 +29,8 @@ use Rattle.comp_trees.specs.LeaderTree.{mix_over}
 use Rattle.comp_trees.proofs.Mixes.{IsPlain, all_facts, IsLow, mix_closes}
 use Rattle.comp_flock.proofs.Opened.{opened_row, opened_constant, opened-long, enough-constant}
 use Rattle.comp_flock.proofs.Starts.{IsStart, start-at, enough-row}
-use Rattle.comp_flock.proofs.Offsets.{output-at, wrong-enough, total-where, IsFilled}
+use Rattle.comp_flock.proofs.Offsets.{total-where, IsFilled}
+use Rattle.comp_flock.proofs.FullNodes.{IsCounting, StartsFull}
 use Rattle.comp_powers_leaf.proofs.Bits.{double}
 use Rattle.comp_flock.proofs.OwnFacts.{not_twice-at, total-counts, total-others}
 use Rattle.comp_trees.proofs.HelperSums.{total-append}
@@ -42,6 +43,19 @@ is_plain coefs bound k helpers b is = record {
   moves = is.formed.moves;
   long = opened-long coefs b ∙ sym (length-map coefs (flock_start (enough_for bound) k));
 }
+
+pub is-counting : (coefs : List ℤ) (bound : ℤ) (k : ℕ) (helpers : List ℕ) → IsFilled coefs bound k helpers → IsCounting coefs bound k (map flock_state_name (range_with_len 0 (k + 2))) (flock_moves k) helpers
+is-counting coefs bound k helpers is = record {
+  are = is.are;
+  long = states-long k;
+  starts = λ i l. starts-full (enough_for bound) k (get_or coefs i (pos 0)) (start-at (says_enough bound) (enough_for bound) k coefs i is.are is.within l);
+  low = is.low;
+  plain = λ b. is_plain coefs bound k helpers b is;
+}
+  where
+    starts-full : (c k : ℕ) (a : ℤ) → IsStart c k a (flock_start c k a) → StartsFull c k a
+    starts-full c k a (inl h) = inl h
+    starts-full c k a (inr h) = inr h.0
 
 module _ (coefs : List ℤ) (bound : ℤ) (k : ℕ) (helpers : List ℕ) (is : IsFilled coefs bound k helpers) where
   -- the value that says that there are enough
@@ -209,90 +223,3 @@ module _ (coefs : List ℤ) (bound : ℤ) (k : ℕ) (helpers : List ℕ) (is : I
   few_closes =
       subst (λ m. closes_by_sum (all_facts leaf pred says row constant (few_facts k)) (terms_from 0 (mix_over (map (λ q. neg_ℤ (size q)) (range_with_len 0 m)) (pos 0) (pos 1) few_own)) ≡ true) long
       (mix_closes leaf pred says row constant (few_facts k) (λ q. neg_ℤ (size q)) (pos 0) (pos 1) few_own plain refl refl few_may few_low)
-
-  -- ---- all are converted
-
-  abbrev pub converted_facts : List Fact → List Fact
-  converted_facts extra = occurs_fact leaf (k + 1) ∷ (map (absent_fact leaf) (range_with_len 0 (k + 1)) ++ extra)
-
-  abbrev minus_one : ℕ → ℤ
-  minus_one q = negsuc 0
-
-  abbrev converted_own : List ℤ
-  converted_own = pos 0 ∷ map minus_one (range_with_len 0 (k + 1))
-
-  converted_sum : (extra : List Fact) (value : Fact → ℤ) → sum_of_facts value (converted_facts extra) converted_own ≡ total (λ q. negsuc 0 *ℤ value (absent_fact leaf q)) (range_with_len 0 (k + 1))
-  converted_sum extra value =
-      let range = range_with_len 0 (k + 1) in
-      let first = zero-*ℤ (value (occurs_fact leaf (k + 1))) in
-      let same = ap (sum_of_facts value (map (absent_fact leaf) range ++ extra)) (sym (append-nil (map minus_one range))) in
-      let both = weighted_sum-append value (map (absent_fact leaf) range) extra (map minus_one range) [] (length-map range (absent_fact leaf) ∙ sym (length-map range minus_one)) in
-      let none = none_weighted value extra in
-      let here = weighted_sum-map value (absent_fact leaf) minus_one range in
-      omega (arith, ints, first, same, both, none, here)
-
-  converted_at : (extra : List Fact) (x : ℕ) → sum_of_facts (coefficient x) (converted_facts extra) converted_own ≡ total (λ q. negsuc 0 *ℤ indicator ((n + q) == x)) (range_with_len 0 (k + 1))
-  converted_at extra x =
-      converted_sum extra (coefficient x)
-      ∙ total-same (λ q. negsuc 0 *ℤ coefficient x (absent_fact leaf q)) (λ q. negsuc 0 *ℤ indicator ((n + q) == x)) (range_with_len 0 (k + 1)) (λ q. ap (λ c. negsuc 0 *ℤ c) (absent-at leaf q x))
-
-  converted_may : (extra : List Fact) → may_weigh may_add (converted_facts extra) converted_own ≡ true
-  converted_may extra =
-      let range = range_with_len 0 (k + 1) in
-      ap (may_weigh may_add (map (absent_fact leaf) range ++ extra)) (sym (append-nil (map minus_one range)))
-      ∙ may_weigh-append may_add (map (absent_fact leaf) range) extra (map minus_one range) [] (length-map range (absent_fact leaf) ∙ sym (length-map range minus_one)) (may_weigh-eqs may_add (λ a row. refl) _ minus_one range) (rest extra)
-    where
-      rest : (extra : List Fact) → may_weigh may_add extra [] ≡ true
-      rest [] = refl
-      rest (f ∷ extra) = refl
-
-  -- a state's output is wrong unless the state is 2^k
-  wrong-at : (z : ℕ) → z < k + 2 → is_wrong leaf says z ≡ not (z == k + 1)
-  wrong-at z l = ap (differs says) (output-at coefs says c k helpers z l) ∙ wrong-enough says k z
-
-  converted_low : (extra : List Fact) → IsLow leaf pred says row constant (converted_facts extra) (λ q. pos 0) (pos 1) (pos 0) converted_own
-  converted_low extra = record {
-    at_inputs = λ i l. (
-        let sum = converted_at extra i in
-        let none = total-others n minus_one (k + 1) i (λ q m e. omega arith) in
-        let zero_row = zero-*ℤ (get_or row i (pos 0)) in
-        omega (arith, ints, sum, none, zero_row));
-    at_states = λ z l. state z (omega (arith, long)) (cases_lt z (k + 1));
-    at_moves = λ t d l. (
-        let sum = converted_at extra (n + length leaf.states + t) in
-        let none = total-others n minus_one (k + 1) (n + length leaf.states + t) (λ q m e. omega (arith, long)) in
-        omega (arith, ints, sum, none));
-    at_past = λ j. (
-        let sum = converted_at extra (n + length leaf.states + (length leaf.moves + j)) in
-        let none = total-others n minus_one (k + 1) (n + length leaf.states + (length leaf.moves + j)) (λ q m e. omega (arith, long)) in
-        omega (arith, ints, sum, none));
-    at_end = (
-        let sum = converted_sum extra constant_of in
-        let none = total-none (λ q. negsuc 0 *ℤ constant_of (absent_fact leaf q)) (range_with_len 0 (k + 1)) (λ q. refl) in
-        let zero_row = zero-*ℤ constant in
-        let helped = total-none (λ (q : ℕ). pos 0) helpers (λ q. refl) in
-        omega (arith, ints, sum, none, zero_row, helped));
-  }
-    where
-      state : (z : ℕ) → z < k + 2 → (z < k + 1) ⊎ (k + 1 ≤ z) → ((neg_ℤ (pos 0) +ℤ (pos 1 *ℤ indicator (is_wrong leaf says z))) +ℤ sum_of_facts (coefficient (n + z)) (converted_facts extra) converted_own) ≤ℤ pos 0
-      state z l (inl m) =
-          let sum = converted_at extra (n + z) in
-          let here = total-counts n minus_one (k + 1) z m in
-          let wrong = ap indicator (wrong-at z l ∙ ap (λ (c : Bool). not c) (ne_eqb z (k + 1) (λ e. omega arith))) in
-          omega (arith, ints, sum, here, wrong)
-      state z l (inr m) =
-          let sum = converted_at extra (n + z) in
-          let none = total-others n minus_one (k + 1) (n + z) (λ q h e. omega arith) in
-          let right = ap indicator (wrong-at z l ∙ ap (λ (c : Bool). not c) (eq-eqb z (k + 1) (omega arith))) in
-          omega (arith, ints, sum, none, right)
-
-  pub converted_closes : (extra : List Fact) → closes_by_sum (all_facts leaf pred says row constant (converted_facts extra)) (terms_from 0 (converted_mix k)) ≡ true
-  converted_closes extra =
-      subst (λ ms. closes_by_sum (all_facts leaf pred says row constant (converted_facts extra)) (terms_from 0 ms) ≡ true) same
-      (mix_closes leaf pred says row constant (converted_facts extra) (λ q. pos 0) (pos 1) (pos 0) converted_own plain refl refl (converted_may extra) (converted_low extra))
-    where
-      same : mix_over (map (λ (q : ℕ). pos 0) (states_of leaf)) (pos 1) (pos 0) converted_own ≡ converted_mix k
-      same =
-          ap (λ m. mix_over (map (λ (q : ℕ). pos 0) (range_with_len 0 m)) (pos 1) (pos 0) converted_own) long
-          ∙ ap (λ zs. mix_over zs (pos 1) (pos 0) converted_own) (range-constant (pos 0) 0 (k + 2))
-          ∙ ap (λ ms. mix_over (zeros (k + 2)) (pos 1) (pos 0) (pos 0 ∷ ms)) (range-constant (negsuc 0) 0 (k + 1))

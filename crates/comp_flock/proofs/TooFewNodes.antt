@@ -1,4 +1,4 @@
--- The nodes of the tree where there are too few close.
+-- The node of the first 2^k closes, and how many moves take a 2^k.
 use Rattle.std.proofs.Common.{◌≡◌, ◌≢◌, ◌⊎◌, ◌∙◌, inl, inr, subst, ℕ, ◌+◌, ◌^◌, ◌<◌, ◌≤◌, Bool, true, false, ◌&&◌, ◌||◌, List, [], ◌∷◌, ◌++◌, length, map, get_or, refl, ap, sym, arith}
 use Rattle.std.specs.Prelude.{ℤ, pos, negsuc, neg_ℤ, ◌+ℤ◌, ◌-ℤ◌, ◌*ℤ◌, ◌≤ℤ◌, if◌then◌else◌, ◌==◌, not, All, nat_abs}
 use Rattle.std.specs.List.{range_with_len}
@@ -24,7 +24,7 @@ use Rattle.cert_base.proofs.WeightedSums.{weighted_sum-append, weighted_sum-zero
 use Rattle.cert_base.proofs.FlowSums.{coefficient-dense, total-none, times-one, mul-neg, one-times}
 use Rattle.comp_trees.proofs.LeaderEnds.{is_wrong}
 use Rattle.comp_trees.proofs.TrapNodes.{range-constant, states-state, states-input, states-past, places-all}
-use Rattle.comp_flock.specs.FlockLeaf.{says_enough, enough_for, size_in, flock_start, doubling_move, conversion_move, flock_moves, flock_leaf_with}
+use Rattle.comp_flock.specs.FlockLeaf.{says_enough, enough_for, size_in, flock_state_name, flock_start, doubling_move, conversion_move, flock_moves, flock_leaf_with}
 use Rattle.comp_flock.specs.FlockProof.{lesser_size, first_mix, start_mix, never_mix, offset_pred_of}
 use Rattle.comp_flock.proofs.Powers.{size-power, size-at, zero_le}
 use Rattle.comp_flock.proofs.MoveLists.{all_moves, all_doublings, all_conversions}
@@ -37,18 +37,8 @@ use Rattle.comp_flock.proofs.OwnFacts.{places-none}
 use Rattle.comp_flock.proofs.Opened.{opened_row, opened_constant, too-few-constant}
 use Rattle.comp_flock.proofs.Starts.{IsStart, start-at, too-few-row}
 use Rattle.comp_flock.proofs.Offsets.{output-at, wrong-too-few, total-where, count-none, IsFilled}
-use Rattle.comp_flock.proofs.EnoughNodes.{is_plain}
-
--- ---- the set of 2^k
-
-abbrev pub full : ℕ → List ℕ
-full k = (k + 1) ∷ []
-
-pub in-yes : (k : ℕ) → is_in (full k) (k + 1) ≡ true
-in-yes k = rw (eq-eqb (k + 1) (k + 1) refl) refl
-
-pub in-no : (k q : ℕ) → q ≢ k + 1 → is_in (full k) q ≡ false
-in-no k q ne = let e = ne_eqb (k + 1) q (λ e. ne (sym e)) in rw e refl
+use Rattle.comp_flock.proofs.FullNodes.{full, in-yes, in-no, or_yes, IsCounting, row-at, start-of}
+use Rattle.comp_flock.proofs.EnoughNodes.{is_plain, is-counting}
 
 -- whether a move puts into the set, and takes from it
 doubling-takes : (k i : ℕ) → i < k → takes_from (full k) (doubling_move i) ≡ false
@@ -90,10 +80,6 @@ size-most k q = go (q == k + 1)
     go true = omega (arith, ints)
     go false = omega (arith, ints)
 
-pub or_yes : (c : Bool) → ((c || true) && true) ≡ true
-or_yes true = refl
-or_yes false = refl
-
 module _ (coefs : List ℤ) (bound : ℤ) (k : ℕ) (helpers : List ℕ) (is : IsFilled coefs bound k helpers) where
   -- the value that says that there are enough
   abbrev says : Bool
@@ -118,21 +104,17 @@ module _ (coefs : List ℤ) (bound : ℤ) (k : ℕ) (helpers : List ℕ) (is : I
   abbrev n : ℕ
   n = length leaf.inputs
 
+  abbrev names : List (List ℕ)
+  names = map flock_state_name (range_with_len 0 (k + 2))
+
   plain : IsPlain leaf row
   plain = is_plain coefs bound k helpers (not says) is
 
-  row-at : (i : ℕ) → i < n → get_or row i (pos 0) ≡ neg_ℤ (pos (nat_abs (get_or coefs i (pos 0))))
-  row-at i l = too-few-row says c coefs i is.are (omega (arith, length-map coefs (flock_start c k)))
-
-  no_helped : total (λ (q : ℕ). pos 0) helpers ≡ pos 0
-  no_helped = total-none (λ (q : ℕ). pos 0) helpers (λ q. refl)
+  counting : IsCounting coefs bound k names (flock_moves k) helpers
+  counting = is-counting coefs bound k helpers is
 
   long : length leaf.states ≡ k + 2
   long = states-long k
-
-  -- the start of an input
-  start-of : (i : ℕ) → i < n → get_or leaf.inputs i 0 ≡ flock_start c k (get_or coefs i (pos 0))
-  start-of i l = get_or-map (flock_start c k) coefs i (pos 0) 0 (omega (arith, length-map coefs (flock_start c k)))
 
   start-cases : (i : ℕ) → i < n → IsStart c k (get_or coefs i (pos 0)) (flock_start c k (get_or coefs i (pos 0)))
   start-cases i l = start-at says c k coefs i is.are is.within (omega (arith, length-map coefs (flock_start c k)))
@@ -201,11 +183,11 @@ module _ (coefs : List ℤ) (bound : ℤ) (k : ℕ) (helpers : List ℕ) (is : I
   first_low = record {
     at_inputs = λ i l. (
         let a = get_or coefs i (pos 0) in
-        let first = ap below (start-of i l) in
+        let first = ap below (start-of coefs bound k names (flock_moves k) helpers counting i l) in
         let most = below-start a (flock_start c k a) (start-cases i l) in
         let none = first_none i (taken-before leaf (joins k) i (omega arith)) in
         let one = one-times (get_or row i (pos 0)) in
-        let counts = row-at i l in
+        let counts = row-at coefs bound k names (flock_moves k) helpers counting i l in
         omega (arith, ints, first, most, none, one, counts));
     at_states = λ z l. (
         let none = first_none (n + z) (taken-before leaf (joins k) (n + z) (omega arith)) in
@@ -235,135 +217,12 @@ module _ (coefs : List ℤ) (bound : ℤ) (k : ℕ) (helpers : List ℕ) (is : I
       subst (λ m. closes_by_sum (all_facts leaf pred (not says) row constant first_facts) (terms_from 0 (mix_over (map below (range_with_len 0 m)) (pos 0) (pos 1) (full_size ∷ []))) ≡ true) long
       (mix_closes leaf pred (not says) row constant first_facts below (pos 0) (pos 1) (full_size ∷ []) plain refl refl first_may first_low)
 
-  -- ---- an agent that starts as 2^k is enough
+  -- ---- the moves that take 2^k
 
-  abbrev starts : ℕ → ℤ
-  starts start = indicator (is_in (full k) start)
-
-  abbrev start_constant : ℤ
-  start_constant = pos (helpers_among leaf (full k)) -ℤ pos 1
-
-  abbrev pub start_facts : List Fact
-  start_facts = Ge (input_row (map starts leaf.inputs) start_constant) ∷ []
-
-  -- no helper does
-  no_helper : helpers_among leaf (full k) ≡ 0
-  no_helper =
-      count-none (is_in (full k)) helpers
-      (All-from_get_or (λ q. is_in (full k) q ≡ false) helpers 0 (λ i l. in-no k (get_or helpers i 0) (λ e. let low = All-get_or (λ q. q ≤ k) helpers i 0 l is.low in omega arith)))
-
-  abbrev enough : ℤ
-  enough = pos c
-
-  start_sum : (x : ℕ) → sum_of_facts (coefficient x) start_facts (enough ∷ []) ≡ (enough *ℤ get_or (map starts leaf.inputs) x (pos 0))
-  start_sum x = let row = ap (λ a. enough *ℤ a) (coefficient-dense (map starts leaf.inputs) x) in omega (arith, ints, row)
-
-  start_past : (x : ℕ) → n ≤ x → sum_of_facts (coefficient x) start_facts (enough ∷ []) ≡ pos 0
-  start_past x l = start_sum x ∙ ap (λ a. enough *ℤ a) (get_or_past (map starts leaf.inputs) x (pos 0) (omega (arith, length-map leaf.inputs starts))) ∙ *ℤ-zero enough
-
-  start_counts : (a : ℤ) (q : ℕ) → IsStart c k a q → (enough *ℤ starts q) ≤ℤ pos (nat_abs a)
-  start_counts a q (inl h) = let e = ap (λ q. enough *ℤ starts q) h.0 ∙ ap (λ b. enough *ℤ indicator b) (in-yes k) ∙ times-one enough in let most = h.1 in omega (arith, ints, e, most)
-  start_counts a q (inr h) = let low = h.0 in let e = ap (λ b. enough *ℤ indicator b) (in-no k q (λ e. omega (arith, e, low))) ∙ *ℤ-zero enough in omega (arith, ints, e)
-
-  start_may : may_weigh may_add start_facts (enough ∷ []) ≡ true
-  start_may = ap (λ (b : Bool). (int_eq enough (pos 0) || b) && true) (zero_le c) ∙ or_yes (int_eq enough (pos 0))
-
-  start_low : IsLow leaf pred (not says) row constant start_facts (λ q. pos 0) (pos 0) (pos 1) (enough ∷ [])
-  start_low = record {
-    at_inputs = λ i l. (
-        let a = get_or coefs i (pos 0) in
-        let sum = start_sum i ∙ ap (λ a. enough *ℤ a) (get_or-map starts leaf.inputs i 0 (pos 0) l ∙ ap starts (start-of i l)) in
-        let counts = start_counts a (flock_start c k a) (start-cases i l) in
-        let one = one-times (get_or row i (pos 0)) in
-        let own = row-at i l in
-        omega (arith, ints, sum, counts, one, own));
-    at_states = λ z l. (let none = start_past (n + z) (omega arith) in let right = zero-*ℤ (indicator (is_wrong leaf (not says) z)) in omega (arith, ints, none, right));
-    at_moves = λ t d l. (let none = start_past (n + length leaf.states + t) (omega arith) in omega (arith, ints, none));
-    at_past = λ j. (let none = start_past (n + length leaf.states + (length leaf.moves + j)) (omega arith) in omega (arith, ints, none));
-    at_end = (
-        let sum = ap {B = ℤ} (λ m. enough *ℤ (pos m -ℤ pos 1)) no_helper ∙ mul-neg enough (pos 1) ∙ ap neg_ℤ (times-one enough) in
-        let helped = no_helped in
-        let one = one-times constant in
-        let least = too-few-constant bound in
-        omega (arith, ints, sum, helped, one, least));
-  }
-
-  -- the states' flows aren't added
-  no_flows : (wrong add : ℤ) (own : List ℤ) → mix_over (map (λ (q : ℕ). pos 0) (states_of leaf)) wrong add own ≡ mix_over (zeros (k + 2)) wrong add own
-  no_flows wrong add own =
-      ap (λ m. mix_over (map (λ (q : ℕ). pos 0) (range_with_len 0 m)) wrong add own) long
-      ∙ ap (λ zs. mix_over zs wrong add own) (range-constant (pos 0) 0 (k + 2))
-
-  pub start_closes : closes_by_sum (all_facts leaf pred (not says) row constant start_facts) (terms_from 0 (start_mix c k)) ≡ true
-  start_closes =
-      subst (λ ms. closes_by_sum (all_facts leaf pred (not says) row constant start_facts) (terms_from 0 ms) ≡ true) (no_flows (pos 0) (pos 1) (enough ∷ []))
-      (mix_closes leaf pred (not says) row constant start_facts (λ q. pos 0) (pos 0) (pos 1) (enough ∷ []) plain refl refl start_may start_low)
-
-  -- ---- 2^k never occurred
-
-  abbrev not_taken : List Fact
-  not_taken = no_moves leaf (takes_from (full k))
-
-  abbrev no_count : Fact
-  no_count = Eq (count_row leaf (full k) (pos 0))
-
-  abbrev pub never_facts : List Fact
-  never_facts = not_taken ++ no_count ∷ []
-
-  abbrev never_own : List ℤ
-  never_own = zeros (k + 1) ++ negsuc 0 ∷ []
-
-  length_taken : length not_taken ≡ k + 1
-  length_taken =
+  pub length-taken : length (no_moves leaf (takes_from (full k))) ≡ k + 1
+  length-taken =
       length-map (places_from 0 (takes_from (full k)) leaf.moves) (λ t. Eq (single_row (move_variable leaf t) (pos 1) (pos 0)))
       ∙ ap length (places-none 0 (takes_from (full k)) (map doubling_move (range_with_len 0 k)) (map (conversion_move k) (range_with_len 0 (k + 1))) (all_doublings k (λ t. takes_from (full k) t ≡ false) (doubling-takes k)))
       ∙ ap length (places-all (0 + length (map doubling_move (range_with_len 0 k))) (takes_from (full k)) (map (conversion_move k) (range_with_len 0 (k + 1))) (all_conversions k (λ t. takes_from (full k) t ≡ true) (λ q l. conversion-takes k q)))
       ∙ length-range_with_len (0 + length (map doubling_move (range_with_len 0 k))) (length (map (conversion_move k) (range_with_len 0 (k + 1))))
       ∙ length-map-range_with_len (conversion_move k) 0 (k + 1)
-
-  pub never_long : length never_facts ≡ k + 2
-  never_long = omega (arith, length-append not_taken (no_count ∷ []), length_taken)
-
-  same_length : length not_taken ≡ length (zeros (k + 1))
-  same_length = length_taken ∙ sym (length-replicate (k + 1) (pos 0))
-
-  never_sum : (value : Fact → ℤ) → sum_of_facts value never_facts never_own ≡ (negsuc 0 *ℤ value no_count)
-  never_sum value =
-      let both = weighted_sum-append value not_taken (no_count ∷ []) (zeros (k + 1)) (negsuc 0 ∷ []) same_length in
-      let none = weighted_sum-zeros value not_taken (k + 1) in
-      omega (arith, ints, both, none)
-
-  never_may : may_weigh may_add never_facts never_own ≡ true
-  never_may = may_weigh-append may_add not_taken (no_count ∷ []) (zeros (k + 1)) (negsuc 0 ∷ []) same_length (may_weigh-zeros may_add not_taken (k + 1) (omega (arith, length_taken))) refl
-
-  abbrev held : ℕ → ℤ
-  held q = indicator (is_in (full k) q)
-
-  never_none : (x : ℕ) → coefficient x no_count ≡ pos 0 → sum_of_facts (coefficient x) never_facts never_own ≡ pos 0
-  never_none x e = never_sum (coefficient x) ∙ ap (λ c. negsuc 0 *ℤ c) e
-
-  -- a wrong output is that of 2^k
-  wrong-at : (z : ℕ) → z < k + 2 → indicator (is_wrong leaf (not says) z) ≡ held z
-  wrong-at z l = ap indicator (ap (differs (not says)) (output-at coefs says c k helpers z l) ∙ wrong-too-few says k z) ∙ same (eqb_tells z (k + 1))
-    where
-      same : ((z == k + 1) ≡ true) × (z ≡ k + 1) ⊎ ((z == k + 1) ≡ false) × (z ≢ k + 1) → indicator (z == k + 1) ≡ held z
-      same (inl h) = ap indicator h.0 ∙ sym (ap held h.1 ∙ ap indicator (in-yes k))
-      same (inr h) = ap indicator h.0 ∙ sym (ap indicator (in-no k z h.1))
-
-  never_low : IsLow leaf pred (not says) row constant never_facts (λ q. pos 0) (pos 1) (pos 0) never_own
-  never_low = record {
-    at_inputs = λ i l. (let none = never_none i (states-input leaf held i l) in let zero_row = zero-*ℤ (get_or row i (pos 0)) in omega (arith, ints, none, zero_row));
-    at_states = λ z l. (
-        let sum = never_sum (coefficient (n + z)) in
-        let here = states-state leaf held z l in
-        let wrong = wrong-at z (omega (arith, long)) in
-        omega (arith, ints, sum, here, wrong));
-    at_moves = λ t d l. (let none = never_none (n + length leaf.states + t) (states-past leaf held t) in omega (arith, ints, none));
-    at_past = λ j. (let none = never_none (n + length leaf.states + (length leaf.moves + j)) (states-past leaf held (length leaf.moves + j)) in omega (arith, ints, none));
-    at_end = (let sum = never_sum constant_of in let zero_row = zero-*ℤ constant in let helped = no_helped in omega (arith, ints, sum, zero_row, helped));
-  }
-
-  pub never_closes : closes_by_sum (all_facts leaf pred (not says) row constant never_facts) (terms_from 0 (never_mix k)) ≡ true
-  never_closes =
-      subst (λ ms. closes_by_sum (all_facts leaf pred (not says) row constant never_facts) (terms_from 0 ms) ≡ true) (no_flows (pos 1) (pos 0) never_own)
-      (mix_closes leaf pred (not says) row constant never_facts (λ q. pos 0) (pos 1) (pos 0) never_own plain refl refl never_may never_low)

@@ -48,26 +48,50 @@ pub first-short : (k : ℕ) → k ≤ 39 → length (first_mix k) ≤ 200
 first-short k l =
     omega (arith, mix-long (map (lesser_size k) (range_with_len 0 (k + 2))) (pos 0) (pos 1) (pos (2 ^ k) ∷ []), length-map-range_with_len (lesser_size k) 0 (k + 2))
 
-pub converted-short : (k : ℕ) → k ≤ 39 → length (converted_mix k) ≤ 200
+pub converted-short : (k : ℕ) → k ≤ 100 → length (converted_mix k) ≤ 400
 converted-short k l =
     omega (arith, mix-long (zeros (k + 2)) (pos 1) (pos 0) (pos 0 ∷ replicate (k + 1) (negsuc 0)), length-replicate (k + 2) (pos 0), length-replicate (k + 1) (negsuc 0))
 
-pub start-short : (c k : ℕ) → k ≤ 39 → length (start_mix c k) ≤ 200
+pub start-short : (c k : ℕ) → k ≤ 100 → length (start_mix c k) ≤ 400
 start-short c k l = omega (arith, mix-long (zeros (k + 2)) (pos 0) (pos 1) (pos c ∷ []), length-replicate (k + 2) (pos 0))
 
-pub never-short : (k : ℕ) → k ≤ 39 → length (never_mix k) ≤ 200
+pub never-short : (k : ℕ) → k ≤ 100 → length (never_mix k) ≤ 400
 never-short k l =
     omega (arith, mix-long (zeros (k + 2)) (pos 1) (pos 0) (zeros (k + 1) ++ negsuc 0 ∷ []), length-replicate (k + 2) (pos 0), length-append (zeros (k + 1)) (negsuc 0 ∷ []), length-replicate (k + 1) (pos 0))
 
 -- a node of few multipliers
-pub mix-within : (flows : List ℤ) (wrong opened : ℤ) (own : List ℤ) (n m : ℕ) → length flows ≤ n → length own ≤ m → n + m ≤ 200 → All IsSmall flows → IsSmall wrong → IsSmall opened → All IsSmall own → IsNodeWithin (weighed_node (mix_over flows wrong opened own))
+pub mix-within : (flows : List ℤ) (wrong opened : ℤ) (own : List ℤ) (n m : ℕ) → length flows ≤ n → length own ≤ m → n + m ≤ 1000 → All IsSmall flows → IsSmall wrong → IsSmall opened → All IsSmall own → IsNodeWithin (weighed_node (mix_over flows wrong opened own))
 mix-within flows wrong opened own n m ln lm few fs w o os =
     let base = flows ++ pos 0 ∷ pos 0 ∷ wrong ∷ [] in
     let all_base = All-append IsSmall flows (pos 0 ∷ pos 0 ∷ wrong ∷ []) fs (All-cons IsSmall (pos 0) (pos 0 ∷ wrong ∷ []) (omega arith) (All-cons IsSmall (pos 0) (wrong ∷ []) (omega arith) (one wrong w))) in
     let all = All-append IsSmall (base ++ opened ∷ []) own (All-append IsSmall base (opened ∷ []) all_base (one opened o)) os in
     weighed-within (mix_over flows wrong opened own) (omega (arith, mix-long flows wrong opened own, ln, lm, few)) all
 
+-- the nodes that rest on the full state alone
+module _ (k : ℕ) (few : k ≤ 100) where
+  nothing : (wrong add : ℤ) (own : List ℤ) → IsSmall wrong → IsSmall add → length own ≤ k + 2 → All IsSmall own → IsNodeWithin (weighed_node (mix_over (zeros (k + 2)) wrong add own))
+  nothing wrong add own w a l os = mix-within (zeros (k + 2)) wrong add own (k + 2) (k + 2) (omega (arith, length-replicate (k + 2) (pos 0))) l (omega arith) (all-zeros (k + 2)) w a os
+
+  pub converted-within : IsNodeWithin (weighed_node (converted_mix k))
+  converted-within =
+      nothing (pos 1) (pos 0) (pos 0 ∷ replicate (k + 1) (negsuc 0)) (omega arith) (omega arith) (omega (arith, length-replicate (k + 1) (negsuc 0)))
+      (All-cons IsSmall (pos 0) (replicate (k + 1) (negsuc 0)) (omega arith) (All-replicate IsSmall (k + 1) (negsuc 0) (omega arith)))
+
+  pub start-within : (c : ℕ) → c ≤ 2 ^ POWER_LIMIT → IsNodeWithin (weighed_node (start_mix c k))
+  start-within c most = nothing (pos 0) (pos 1) (pos c ∷ []) (omega arith) (omega arith) (omega arith) (one (pos c) (omega (arith, most)))
+
+  pub never-within : IsNodeWithin (weighed_node (never_mix k))
+  never-within =
+      nothing (pos 1) (pos 0) (zeros (k + 1) ++ negsuc 0 ∷ []) (omega arith) (omega arith) (omega (arith, length-append (zeros (k + 1)) (negsuc 0 ∷ []), length-replicate (k + 1) (pos 0)))
+      (All-append IsSmall (zeros (k + 1)) (negsuc 0 ∷ []) (all-zeros (k + 1)) (one (negsuc 0) (omega arith)))
+
+  pub full-within : IsSetWithin ((k + 1) ∷ [])
+  full-within = (omega arith, All-cons (λ q. q < 2 ^ 16) (k + 1) [] (omega arith) (All-nil (λ q. q < 2 ^ 16)), tt)
+
 module _ (k : ℕ) (high : k ≤ 39) where
+  few : k ≤ 100
+  few = omega (arith, high)
+
   top-small : 2 ^ k ≤ 2 ^ POWER_LIMIT
   top-small = power_small k high
 
@@ -86,9 +110,6 @@ module _ (k : ℕ) (high : k ≤ 39) where
         weights = All-map IsSmall (flock_weight k) (range_with_len 0 (k + 2)) (all_range (λ q. IsSmall (flock_weight k q)) 0 (k + 2) (λ q l m. weight-small k q));
       })
       (All-nil IsLayerWithin)
-
-  nothing : (wrong add : ℤ) (own : List ℤ) → IsSmall wrong → IsSmall add → length own ≤ k + 2 → All IsSmall own → IsNodeWithin (weighed_node (mix_over (zeros (k + 2)) wrong add own))
-  nothing wrong add own w a l os = mix-within (zeros (k + 2)) wrong add own (k + 2) (k + 2) (omega (arith, length-replicate (k + 2) (pos 0))) l (omega arith) (all-zeros (k + 2)) w a os
 
   greatest-small : (full q : ℕ) → full ≤ 2 ^ POWER_LIMIT → q < k + 2 → greatest_size full k q ≤ 2 ^ POWER_LIMIT
   greatest-small full q most l = go (q == k + 1)
@@ -115,19 +136,6 @@ module _ (k : ℕ) (high : k ≤ 39) where
       (All-map IsSmall (lesser_size k) (range_with_len 0 (k + 2)) (all_range (λ q. IsSmall (lesser_size k q)) 0 (k + 2) (λ q l m. below-small k q (size_in q) (size-small q (omega arith)))))
       (omega arith) (omega arith) (one (pos (2 ^ k)) (let a = top-small in omega (arith, a)))
 
-  converted-within : IsNodeWithin (weighed_node (converted_mix k))
-  converted-within =
-      nothing (pos 1) (pos 0) (pos 0 ∷ replicate (k + 1) (negsuc 0)) (omega arith) (omega arith) (omega (arith, length-replicate (k + 1) (negsuc 0)))
-      (All-cons IsSmall (pos 0) (replicate (k + 1) (negsuc 0)) (omega arith) (All-replicate IsSmall (k + 1) (negsuc 0) (omega arith)))
-
-  start-within : (c : ℕ) → c ≤ 2 ^ POWER_LIMIT → IsNodeWithin (weighed_node (start_mix c k))
-  start-within c most = nothing (pos 0) (pos 1) (pos c ∷ []) (omega arith) (omega arith) (omega arith) (one (pos c) (omega (arith, most)))
-
-  never-within : IsNodeWithin (weighed_node (never_mix k))
-  never-within =
-      nothing (pos 1) (pos 0) (zeros (k + 1) ++ negsuc 0 ∷ []) (omega arith) (omega arith) (omega (arith, length-append (zeros (k + 1)) (negsuc 0 ∷ []), length-replicate (k + 1) (pos 0)))
-      (All-append IsSmall (zeros (k + 1)) (negsuc 0 ∷ []) (all-zeros (k + 1)) (one (negsuc 0) (omega arith)))
-
   twins-within : All IsNodeWithin (map Twin (range_with_len 1 k))
   twins-within = All-map IsNodeWithin Twin (range_with_len 1 k) (all_range (λ q. q < 2 ^ 16) 1 k (λ q l m. omega arith))
 
@@ -140,11 +148,8 @@ module _ (k : ℕ) (high : k ≤ 39) where
             (All-cons IsNodeWithin (Open (k + 2 + 1)) (Present (k + 1) ∷ map Twin (range_with_len 1 k)) (omega arith)
             (All-cons IsNodeWithin (Present (k + 1)) (map Twin (range_with_len 1 k)) (omega arith) twins-within))
             (All-cons IsNodeWithin (weighed_node (few_mix full k)) (weighed_node (converted_mix k) ∷ []) (few-within full most)
-            (All-cons IsNodeWithin (weighed_node (converted_mix k)) [] converted-within (All-nil IsNodeWithin))),
+            (All-cons IsNodeWithin (weighed_node (converted_mix k)) [] (converted-within k few) (All-nil IsNodeWithin))),
       )
-
-  full-within : IsSetWithin ((k + 1) ∷ [])
-  full-within = (omega arith, All-cons (λ q. q < 2 ^ 16) (k + 1) [] (omega arith) (All-nil (λ q. q < 2 ^ 16)), tt)
 
   too-few-within : (c : ℕ) → c ≤ 2 ^ POWER_LIMIT → AreNodesWithin (too_few_tree c k)
   too-few-within c most =
@@ -153,10 +158,10 @@ module _ (k : ℕ) (high : k ≤ 39) where
       let one = weighed_node (first_mix k) ∷ two in (
         omega arith,
         All-cons IsNodeWithin (Open (k + 2 + 1)) (Siphon ((k + 1) ∷ []) ∷ one) (omega arith)
-            (All-cons IsNodeWithin (Siphon ((k + 1) ∷ [])) one full-within
+            (All-cons IsNodeWithin (Siphon ((k + 1) ∷ [])) one (full-within k few)
             (All-cons IsNodeWithin (weighed_node (first_mix k)) two first-within
-            (All-cons IsNodeWithin (weighed_node (start_mix c k)) three (start-within c most)
-            (All-cons IsNodeWithin (weighed_node (never_mix k)) [] never-within (All-nil IsNodeWithin))))),
+            (All-cons IsNodeWithin (weighed_node (start_mix c k)) three (start-within k few c most)
+            (All-cons IsNodeWithin (weighed_node (never_mix k)) [] (never-within k few) (All-nil IsNodeWithin))))),
       )
 
   pub tree-within : (full c : ℕ) → full ≤ 2 ^ POWER_LIMIT → c ≤ 2 ^ POWER_LIMIT → (enough : Bool) → AreNodesWithin (flock_tree enough full c k)

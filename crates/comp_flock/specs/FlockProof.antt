@@ -19,13 +19,16 @@ use Rattle.comp_flock.specs.declared.limits.TheConstants.{POWER_LIMIT}
 abbrev pub flock_weight : ℕ → ℕ → ℤ
 flock_weight k q = if q == 0 then pos 1 else (if q == k + 1 then pos 0 else pos 2)
 
--- all moves, in one layer
-abbrev pub flock_layers_of : ℕ → List Layer
-flock_layers_of k =
+-- this many moves, in one layer
+abbrev pub counting_layers : ℕ → ℕ → List Layer
+counting_layers count k =
     record {
-      moves = range_with_len 0 (k + (k + 1));
+      moves = range_with_len 0 count;
       weights = map (flock_weight k) (range_with_len 0 (flock_state_count k));
     } ∷ []
+
+abbrev pub flock_layers_of : ℕ → List Layer
+flock_layers_of k = counting_layers (k + (k + 1)) k
 
 -- ---- the nodes
 
@@ -71,10 +74,14 @@ enough_tree full k =
     (Open (flock_state_count k + 1) ∷ Present (k + 1) ∷ map Twin (range_with_len 1 k))
     ++ weighed_node (few_mix full k) ∷ weighed_node (converted_mix k) ∷ []
 
-abbrev pub too_few_tree : ℕ → ℕ → List Node
-too_few_tree c k =
-    Open (flock_state_count k + 1) ∷ Siphon ((k + 1) ∷ []) ∷ weighed_node (first_mix k) ∷ weighed_node (start_mix c k)
+-- by the node of the first agent in state k + 1
+abbrev pub full_tree : ℕ → ℕ → List ℤ → List Node
+full_tree c k first =
+    Open (flock_state_count k + 1) ∷ Siphon ((k + 1) ∷ []) ∷ weighed_node first ∷ weighed_node (start_mix c k)
     ∷ weighed_node (never_mix k) ∷ []
+
+abbrev pub too_few_tree : ℕ → ℕ → List Node
+too_few_tree c k = full_tree c k (first_mix k)
 
 abbrev pub flock_tree : Bool → ℕ → ℕ → ℕ → List Node
 flock_tree true full c k = enough_tree full k

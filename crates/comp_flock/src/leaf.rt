@@ -3,7 +3,7 @@
 ghost use Rattle.std.specs.Prelude.{◌≡◌, ◌≤◌, map, IfOk};
 ghost use Rattle.std.specs.List.{range_with_len};
 ghost use Rattle.comp_trees.specs.DefinedLeaf.{IsDefined};
-ghost use Rattle.comp_flock.specs.declared.limits.TheConstants.{POWER_LIMIT};
+ghost use Rattle.comp_flock.specs.declared.limits.TheConstants.{POWER_LIMIT, PLACE_LIMIT};
 ghost use Rattle.comp_flock.specs.FlockLeaf.{flock_start, place_of as place, flock_state_count, flock_output};
 ghost use Rattle.comp_powers_leaf.specs.PowersLeaf.{power_in};
 ghost use Rattle.comp_flock.specs.FlockLeaf.{offset_leaf_of, IsOffset, HasSpareRoom};
@@ -19,14 +19,15 @@ use std::alloc::Global;
 
 /// What 2^k says, and the others deny.
 fn output(says: bool, power: u16, q: u16) -> bool
-    requires { power ≤ POWER_LIMIT }
+    requires { power ≤ PLACE_LIMIT }
     ensures { result ≡ flock_output says power q }
 {
     if says { q == power + 1 } else { q != power + 1 }
 }
 
-fn outputs(alloc: Global, says: bool, power: u16) -> Result<Vec<bool>, NoMemory>
-    requires { power ≤ POWER_LIMIT }
+/// The outputs of all states.
+pub fn outputs(alloc: Global, says: bool, power: u16) -> Result<Vec<bool>, NoMemory>
+    requires { power ≤ PLACE_LIMIT }
     ensures { IfOk result (λ outputs.
         outputs.items ≡ map (flock_output says power) (range_with_len 0 (flock_state_count power))) }
 {
@@ -48,7 +49,7 @@ fn place_of(size: u64) -> u16
 
 /// The state of an agent of a variable at the start.
 fn start_of(enough: u64, power: u16, coef: i64) -> u16
-    requires { power ≤ POWER_LIMIT }
+    requires { power ≤ PLACE_LIMIT }
     ensures { result ≡ flock_start enough power coef }
 {
     if enough <= coef.unsigned_abs() {
@@ -58,8 +59,9 @@ fn start_of(enough: u64, power: u16, coef: i64) -> u16
     }
 }
 
-fn inputs(alloc: Global, enough: u64, power: u16, coefs: &[i64]) -> Result<Vec<u16>, NoMemory>
-    requires { power ≤ POWER_LIMIT }
+/// Where the agents of the variables start.
+pub fn inputs(alloc: Global, enough: u64, power: u16, coefs: &[i64]) -> Result<Vec<u16>, NoMemory>
+    requires { power ≤ PLACE_LIMIT }
     ensures { IfOk result (λ inputs. inputs.items ≡ map (flock_start enough power) coefs.now) }
 {
     let mut inputs = Vec::new(alloc);

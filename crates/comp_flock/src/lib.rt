@@ -12,6 +12,7 @@
 //! power is present at most once, and all of them add up to at most 2^k - 1.
 #![tactic(auto)]
 
+mod full;
 mod law;
 mod leaf;
 mod limits;
@@ -24,8 +25,11 @@ mod trees;
 mod weights;
 mod whole;
 
+pub use full::{converted_node, full_tree, opened_number};
 pub use law::offset_flocks_are_right;
-pub use limits::POWER_LIMIT;
-pub use offset::offset_helper_count;
-pub use power::{flock_power, offset_power};
-pub use whole::{flock, offset_flock};
+pub use leaf::{inputs, outputs};
+pub use limits::{PLACE_LIMIT, POWER_LIMIT};
+pub use offset::{enough_for, offset_helper_count, says_enough};
+pub use power::{are_counted, flock_power, offset_power};
+pub use weights::counting_layers;
+pub use whole::{flock, offset_flock, offset_pred};

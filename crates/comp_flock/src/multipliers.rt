@@ -4,8 +4,7 @@ ghost use Rattle.std.specs.Prelude.{◌≡◌, ◌≤◌, ◌≤ℤ◌, ◌+◌,
 ghost use Rattle.std.specs.List.{range_with_len};
 ghost use Rattle.comp_flock.specs.declared.limits.TheConstants.{POWER_LIMIT};
 ghost use Rattle.comp_flock.specs.FlockLeaf.{size_in, flock_state_count};
-ghost use Rattle.comp_flock.specs.FlockProof.{lesser_size, greatest_size, few_mix, converted_mix, first_mix, start_mix};
-ghost use Rattle.comp_flock.specs.FlockProof.{never_mix};
+ghost use Rattle.comp_flock.specs.FlockProof.{lesser_size, greatest_size, few_mix, first_mix};
 
 use crate::naming::size_of;
 use comp_trees::mix;
@@ -91,18 +90,6 @@ pub(crate) fn few(alloc: Global, full: u64, power: u16) -> Result<Vec<i64>, NoMe
     mix(alloc, flows.as_slice(), 0, 1, own.as_slice())
 }
 
-/// 2^k is present, and nothing else.
-pub(crate) fn converted(alloc: Global, power: u16) -> Result<Vec<i64>, NoMemory>
-    requires { power ≤ POWER_LIMIT }
-    ensures { IfOk result (λ multipliers. multipliers.items ≡ converted_mix power) }
-{
-    let mut own = Vec::from_slice(alloc, &[0i64])?;
-    let absent = vec![in alloc; -1i64; usize::from(power + 1)]?;
-    own.extend_from_slice(absent.as_slice())?;
-    let flows = vec![in alloc; 0i64; usize::from(power + 2)]?;
-    mix(alloc, flows.as_slice(), 1, 0, own.as_slice())
-}
-
 /// The first 2^k was put together.
 pub(crate) fn first(alloc: Global, power: u16) -> Result<Vec<i64>, NoMemory>
     requires { power ≤ POWER_LIMIT }
@@ -110,25 +97,4 @@ pub(crate) fn first(alloc: Global, power: u16) -> Result<Vec<i64>, NoMemory>
 {
     let flows = all_below(alloc, power)?;
     mix(alloc, flows.as_slice(), 0, 1, &[size(power + 1)])
-}
-
-/// An agent started as 2^k, so it is enough.
-pub(crate) fn start(alloc: Global, enough: u64, power: u16) -> Result<Vec<i64>, NoMemory>
-    requires enough { enough ≤ 2 ^ POWER_LIMIT }
-    requires power { power ≤ POWER_LIMIT }
-    ensures { IfOk result (λ multipliers. multipliers.items ≡ start_mix enough power) }
-{
-    let flows = vec![in alloc; 0i64; usize::from(power + 2)]?;
-    mix(alloc, flows.as_slice(), 0, 1, &[enough as i64])
-}
-
-/// 2^k never occurred.
-pub(crate) fn never(alloc: Global, power: u16) -> Result<Vec<i64>, NoMemory>
-    requires { power ≤ POWER_LIMIT }
-    ensures { IfOk result (λ multipliers. multipliers.items ≡ never_mix power) }
-{
-    let mut own = vec![in alloc; 0i64; usize::from(power + 1)]?;
-    own.extend_from_slice(&[-1])?;
-    let flows = vec![in alloc; 0i64; usize::from(power + 2)]?;
-    mix(alloc, flows.as_slice(), 1, 0, own.as_slice())
 }

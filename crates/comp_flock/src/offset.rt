@@ -12,14 +12,14 @@ use std::alloc::Global;
 
 /// Whether an atom with this bound says that there are enough; else it denies it.
 #[tactic(auto, using(crate::proofs::Opened::none_or_less))]
-pub(crate) fn says_enough(bound: i64) -> bool
+pub fn says_enough(bound: i64) -> bool
     ensures { result ≡ says_of bound }
 {
     bound <= 0
 }
 
 /// How many are enough.
-pub(crate) fn enough_for(bound: i64) -> u64
+pub fn enough_for(bound: i64) -> u64
     ensures { result ≡ enough_of bound }
 {
     if bound > 0 {

@@ -47,7 +47,8 @@ fn is_counted(says: bool, enough: u64, coef: i64) -> bool
     has_sign(says, coef) && is_size(enough, coef.unsigned_abs())
 }
 
-fn are_counted(says: bool, enough: u64, coefs: &[i64]) -> bool
+/// Whether the leaf counts the agents of all variables, where this many are enough.
+pub fn are_counted(says: bool, enough: u64, coefs: &[i64]) -> bool
     ensures { result ≡ list_all (is_counted_by says enough) coefs.now }
 {
     coefs.iter().all(|coef| is_counted(says, enough, *coef))

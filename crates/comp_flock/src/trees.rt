@@ -1,28 +1,19 @@
 //! Both trees of a leaf.
 
-ghost use Rattle.std.specs.Prelude.{◌≡◌, ◌≤◌, ◌+◌, ◌^◌, ◌++◌, ◌∷◌, [], length, map, nat_abs, nat_le, IfOk, OnOk};
+ghost use Rattle.std.specs.Prelude.{◌≡◌, ◌≤◌, ◌^◌, ◌++◌, map, nat_abs, nat_le, IfOk, OnOk};
 ghost use Rattle.std.specs.List.{range_with_len, list_all};
-ghost use Rattle.cert_base.specs.declared.node.Node.TheVariants.{Siphon, Twin as twin_node};
-ghost use Rattle.comp_trees.specs.LeaderTree.{weighed_node};
+ghost use Rattle.cert_base.specs.declared.node.Node.TheVariants.{Twin as twin_node};
 ghost use Rattle.comp_flock.specs.declared.limits.TheConstants.{POWER_LIMIT};
 ghost use Rattle.comp_flock.specs.FlockProof.{enough_tree as tree_of_enough, too_few_tree as tree_of_few, flock_tree};
 ghost use Rattle.comp_flock.specs.FlockProof.{full_size as full_size_of};
 
+use crate::full::{converted_node, full_tree, node, opened_number};
 use crate::limits::POWER_LIMIT as GREATEST_POWER;
-use crate::multipliers::{converted, few, first, never, start};
+use crate::multipliers::{few, first};
 use cert_base::Node;
 use comp_powers_leaf::two_to;
-use comp_trees::{MULTIPLIER_LIMIT, weighed};
 use pop_io::{List, NoMemory};
 use std::alloc::Global;
-
-/// The number of the fact that is opened: that the predicate has its value.
-fn opened(power: u16) -> u32
-    requires { power ≤ POWER_LIMIT }
-    ensures { result ≡ power + 2 + 1 }
-{
-    u32::from(power) + 2 + 1
-}
 
 /// A twin for each power below 2^k.
 fn push_twins(nodes: &mut Vec<Node>, power: u16) -> Result<(), NoMemory>
@@ -35,24 +26,6 @@ fn push_twins(nodes: &mut Vec<Node>, power: u16) -> Result<(), NoMemory>
     Ok(())
 }
 
-/// The siphon of 2^k alone.
-fn siphon(alloc: Global, power: u16) -> Result<Node, NoMemory>
-    requires { power ≤ POWER_LIMIT }
-    ensures { IfOk result (λ node. node ≡ Siphon ((power + 1) ∷ [])) }
-{
-    let full = Vec::from_slice(alloc, &[power + 1])?;
-    Ok(Node::Siphon(List::from_vec(full)))
-}
-
-/// The node that these multipliers close.
-fn node(alloc: Global, multipliers: Vec<i64>) -> Result<Node, NoMemory>
-    requires { length multipliers.items ≤ MULTIPLIER_LIMIT }
-    ensures { IfOk result (λ node. node ≡ weighed_node multipliers.items) }
-{
-    let node = weighed(alloc, multipliers.as_slice())?;
-    Ok(node)
-}
-
 /// Where there are enough: 2^k is absent at the end, or it is present.
 fn enough_tree(alloc: Global, full: u64, power: u16) -> Result<List<Node>, NoMemory>
     requires full { full ≤ 2 ^ POWER_LIMIT }
@@ -60,11 +33,11 @@ fn enough_tree(alloc: Global, full: u64, power: u16) -> Result<List<Node>, NoMem
     ensures { IfOk result (λ nodes. nodes ≡ tree_of_enough full power) }
 {
     let mut nodes = Vec::new(alloc);
-    nodes.push(Node::Open(opened(power)))?;
+    nodes.push(Node::Open(opened_number(power)))?;
     nodes.push(Node::Present(power + 1))?;
     push_twins(&mut nodes, power)?;
     nodes.push(node(alloc, few(alloc, full, power)?)?)?;
-    nodes.push(node(alloc, converted(alloc, power)?)?)?;
+    nodes.push(converted_node(alloc, power)?)?;
     Ok(List::from_vec(nodes))
 }
 
@@ -74,13 +47,8 @@ fn too_few_tree(alloc: Global, enough: u64, power: u16) -> Result<List<Node>, No
     requires power { power ≤ POWER_LIMIT }
     ensures { IfOk result (λ nodes. nodes ≡ tree_of_few enough power) }
 {
-    let mut nodes = Vec::new(alloc);
-    nodes.push(Node::Open(opened(power)))?;
-    nodes.push(siphon(alloc, power)?)?;
-    nodes.push(node(alloc, first(alloc, power)?)?)?;
-    nodes.push(node(alloc, start(alloc, enough, power)?)?)?;
-    nodes.push(node(alloc, never(alloc, power)?)?)?;
-    Ok(List::from_vec(nodes))
+    let first = first(alloc, power)?;
+    full_tree(alloc, enough, power, first)
 }
 
 fn is_within(power: u16, coef: i64) -> bool

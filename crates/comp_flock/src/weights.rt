@@ -2,16 +2,16 @@
 
 ghost use Rattle.std.specs.Prelude.{◌≡◌, ◌≤◌, ◌+◌, map, IfOk};
 ghost use Rattle.std.specs.List.{range_with_len};
-ghost use Rattle.comp_flock.specs.declared.limits.TheConstants.{POWER_LIMIT};
+ghost use Rattle.comp_flock.specs.declared.limits.TheConstants.{POWER_LIMIT, PLACE_LIMIT};
 ghost use Rattle.comp_flock.specs.FlockLeaf.{flock_state_count};
-ghost use Rattle.comp_flock.specs.FlockProof.{flock_weight, flock_layers_of};
+ghost use Rattle.comp_flock.specs.FlockProof.{flock_weight, flock_layers_of, counting_layers as layers_of};
 
 use cert_base::Layer;
 use pop_io::{List, NoMemory};
 use std::alloc::Global;
 
 fn weight_of(power: u16, q: u16) -> i64
-    requires { power ≤ POWER_LIMIT }
+    requires { power ≤ PLACE_LIMIT }
     ensures { result ≡ flock_weight power q }
 {
     if q == 0 {
@@ -24,7 +24,7 @@ fn weight_of(power: u16, q: u16) -> i64
 }
 
 fn weights(alloc: Global, power: u16) -> Result<Vec<i64>, NoMemory>
-    requires { power ≤ POWER_LIMIT }
+    requires { power ≤ PLACE_LIMIT }
     ensures { IfOk result (λ weights.
         weights.items ≡ map (flock_weight power) (range_with_len 0 (flock_state_count power))) }
 {
@@ -42,15 +42,22 @@ fn numbers(alloc: Global, count: u32) -> Result<Vec<u32>, NoMemory>
     Ok(numbers)
 }
 
-/// All moves in one layer.
+/// All of this many moves in one layer.
+pub fn counting_layers(alloc: Global, count: u32, power: u16) -> Result<List<Layer>, NoMemory>
+    requires { power ≤ PLACE_LIMIT }
+    ensures { IfOk result (λ layers. layers ≡ layers_of count power) }
+{
+    let moves = List::from_vec(numbers(alloc, count)?);
+    let weights = List::from_vec(weights(alloc, power)?);
+    let mut layers = Vec::new(alloc);
+    layers.push(Layer { moves, weights })?;
+    Ok(List::from_vec(layers))
+}
+
 pub(crate) fn flock_layers(alloc: Global, power: u16) -> Result<List<Layer>, NoMemory>
     requires { power ≤ POWER_LIMIT }
     ensures { IfOk result (λ layers. layers ≡ flock_layers_of power) }
 {
     let doublings = u32::from(power);
-    let moves = List::from_vec(numbers(alloc, doublings + (doublings + 1))?);
-    let weights = List::from_vec(weights(alloc, power)?);
-    let mut layers = Vec::new(alloc);
-    layers.push(Layer { moves, weights })?;
-    Ok(List::from_vec(layers))
+    counting_layers(alloc, doublings + (doublings + 1), power)
 }

@@ -16,7 +16,8 @@ use pop_net::Leaf;
 use pres_ast::{Pred, Tree};
 use std::alloc::Global;
 
-fn offset_pred(alloc: Global, coefs: &[i64], bound: i64, power: u32) -> Result<Pred, NoMemory>
+/// The atom as a predicate.
+pub fn offset_pred(alloc: Global, coefs: &[i64], bound: i64, power: u32) -> Result<Pred, NoMemory>
     requires { IsOffset coefs.now bound power }
     ensures { IfOk result (λ pred. pred ≡ offset_pred_of coefs.now bound) }
 {
