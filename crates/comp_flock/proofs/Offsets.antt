@@ -22,9 +22,6 @@ use Rattle.comp_flock.proofs.Starts.{flock-are, flock-sum}
 
 -- ---- outputs
 
-pub output-at : (coefs : List ℤ) (says : Bool) (c k : ℕ) (helpers : List ℕ) (z : ℕ) → z < k + 2 → get_or (flock_leaf_with coefs says c k helpers).outputs z false ≡ flock_output says k z
-output-at coefs says c k helpers z l = get_or-map-range_with_len (flock_output says k) 0 (k + 2) z z false l (zero-add z)
-
 -- where there are enough, all outputs but that of 2^k are wrong, and else that of 2^k alone
 pub wrong-enough : (says : Bool) (k z : ℕ) → differs says (flock_output says k z) ≡ not (z == k + 1)
 wrong-enough true k z = refl

@@ -71,7 +71,7 @@ offset_found coefs bound k sum e = let is = offset_power_is coefs bound k e in r
 
 -- ---- what is found is the first
 
-find-first : (p : ℕ → Bool) (a n k : ℕ) → find p (range_with_len a n) ≡ Some k → (j : ℕ) → a ≤ j → j < k → p j ≡ false
+pub find-first : (p : ℕ → Bool) (a n k : ℕ) → find p (range_with_len a n) ≡ Some k → (j : ℕ) → a ≤ j → j < k → p j ≡ false
 find-first p a zero k e j l m = absurd (let g : None ≡ Some k = e in cc)
 find-first p a (suc n) k e j l m = go (p a) refl e (λ f h. find-first p (a + 1) n k f j h m)
   where
@@ -82,7 +82,10 @@ find-first p a (suc n) k e j l m = go (p a) refl e (λ f h. find-first p (a + 1)
       | inr g ↦ rest f (omega (arith, g, l))
     ]
 
-find-any : (p : ℕ → Bool) (a n i : ℕ) → a ≤ i → i < a + n → p i ≡ true → (k : ℕ) × (find p (range_with_len a n) ≡ Some k)
+pub find-in : (p : ℕ → Bool) (a n k : ℕ) → find p (range_with_len a n) ≡ Some k → p k ≡ true
+find-in p a n k e = (find_some p (range_with_len a n) k e).2
+
+pub find-any : (p : ℕ → Bool) (a n i : ℕ) → a ≤ i → i < a + n → p i ≡ true → (k : ℕ) × (find p (range_with_len a n) ≡ Some k)
 find-any p a zero i l m e = absurd (omega (arith, l, m))
 find-any p a (suc n) i l m e = go (p a) refl (λ h. find-any p (a + 1) n i h (omega (arith, m)) e)
   where

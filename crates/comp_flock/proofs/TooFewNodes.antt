@@ -36,7 +36,7 @@ use Rattle.comp_powers_leaf.proofs.Bits.{double}
 use Rattle.comp_flock.proofs.OwnFacts.{places-none}
 use Rattle.comp_flock.proofs.Opened.{opened_row, opened_constant, too-few-constant}
 use Rattle.comp_flock.proofs.Starts.{IsStart, start-at, too-few-row}
-use Rattle.comp_flock.proofs.Offsets.{output-at, wrong-too-few, total-where, count-none, IsFilled}
+use Rattle.comp_flock.proofs.Offsets.{total-where, IsFilled}
 use Rattle.comp_flock.proofs.FullNodes.{full, in-yes, in-no, or_yes, IsCounting, row-at, start-of}
 use Rattle.comp_flock.proofs.EnoughNodes.{is_plain, is-counting}
 

@@ -16,11 +16,10 @@ use Rattle.cert_base.proofs.Spread.{spread_of}
 use Rattle.comp_trees.proofs.SortedLayers.{AreKinds, sorted_layers-valid}
 use Rattle.comp_trees.proofs.TrapNodes.{places-all}
 use Rattle.comp_flock.specs.FlockLeaf.{flock_state_count}
-use Rattle.comp_flock.specs.FlockProof.{flock_weight, for_states, offset_steps}
+use Rattle.comp_flock.specs.FlockProof.{flock_weight, for_states, counting_layers, offset_steps}
 use Rattle.comp_flock.proofs.Layers.{weight-full, weight-power}
 use Rattle.comp_flock.proofs.Steps.{weight_within, none-within}
 use Rattle.comp_prefix.specs.PrefixLeaf.{worth_in, full_move, join_move, prefix_moves, prefix_state_name, prefix_leaf_with}
-use Rattle.comp_prefix.specs.PrefixProof.{prefix_layers}
 use Rattle.comp_prefix.proofs.Chain.{IsChain}
 use Rattle.comp_prefix.proofs.MoveLists.{all_moves}
 use Rattle.comp_prefix.proofs.Meetings.{join-some}
@@ -80,27 +79,27 @@ module _ (ws : List ℕ) (c top k : ℕ) (is : IsChain ws c top k) where
       wakes = λ t u ct cu lt lu l. absurd (omega (arith, l));
     }
 
-    pub layers-valid : ValidLayers leaf (prefix_layers leaf k)
+    pub layers-valid : ValidLayers leaf (counting_layers (length leaf.moves) k)
     layers-valid =
         let listed = places-all 0 (λ (t : Move). 0 == 0) (prefix_moves ws c k) (all_moves ws c k (λ t. true ≡ true) (λ p q l m n. refl) (λ p q l m n e. refl) (λ q l. refl)) in
         subst (λ ns. ValidLayers leaf (record { moves = ns; weights = weights k } ∷ [])) listed (sorted_layers-valid leaf (λ t. 0) (weights k ∷ []) are_kinds)
 
 -- ---- steps
 
-more-steps : (leaf : LeafModel) (k : ℕ) → 1 ≤ k → layers_bound (prefix_layers leaf k) ≡ 2
-more-steps leaf k some =
+more-steps : (count k : ℕ) → 1 ≤ k → layers_bound (counting_layers count k) ≡ 2
+more-steps count k some =
     let spread : weights_spread (for_states k (flock_weight k)) ≡ 2 = spread_of (flock_weight k) (flock_state_count k) (pos 0) (pos 2) (k + 1) 1 (omega arith) (omega (arith, some)) (weight-full k) (weight-power k 0 (omega (arith, some))) (λ q l. weight_within k q) in
-    let sum : layers_bound (prefix_layers leaf k) ≡ weights_spread (for_states k (flock_weight k)) + 0 = sum_by-cons (λ (layer : Layer). weights_spread layer.weights) (record { moves = range_with_len 0 (length leaf.moves); weights = for_states k (flock_weight k) }) [] in
+    let sum : layers_bound (counting_layers count k) ≡ weights_spread (for_states k (flock_weight k)) + 0 = sum_by-cons (λ (layer : Layer). weights_spread layer.weights) (record { moves = range_with_len 0 count; weights = for_states k (flock_weight k) }) [] in
     omega (arith, spread, sum)
 
-one-step : (leaf : LeafModel) → layers_bound (prefix_layers leaf 0) ≡ 1
-one-step leaf =
+one-step : (count : ℕ) → layers_bound (counting_layers count 0) ≡ 1
+one-step count =
     let spread : weights_spread (for_states 0 (flock_weight 0)) ≡ 1 = spread_of (flock_weight 0) 2 (pos 0) (pos 1) 1 0 (omega arith) (omega arith) refl refl none-within in
-    let sum : layers_bound (prefix_layers leaf 0) ≡ weights_spread (for_states 0 (flock_weight 0)) + 0 = sum_by-cons (λ (layer : Layer). weights_spread layer.weights) (record { moves = range_with_len 0 (length leaf.moves); weights = for_states 0 (flock_weight 0) }) [] in
+    let sum : layers_bound (counting_layers count 0) ≡ weights_spread (for_states 0 (flock_weight 0)) + 0 = sum_by-cons (λ (layer : Layer). weights_spread layer.weights) (record { moves = range_with_len 0 count; weights = for_states 0 (flock_weight 0) }) [] in
     omega (arith, spread, sum)
 
-pub steps-are : (leaf : LeafModel) (k : ℕ) → layers_bound (prefix_layers leaf k) ≡ offset_steps k
-steps-are leaf k = elim (cases_eq k 0) [
-  | inl e ↦ (let zero : (k == 0) ≡ true = eq-eqb k 0 e in rw zero (ap (λ j. layers_bound (prefix_layers leaf j)) e ∙ one-step leaf))
-  | inr ne ↦ (let some : (k == 0) ≡ false = ne_eqb k 0 ne in rw some (more-steps leaf k (omega (arith, ne))))
+pub steps-are : (count k : ℕ) → layers_bound (counting_layers count k) ≡ offset_steps k
+steps-are count k = elim (cases_eq k 0) [
+  | inl e ↦ (let zero : (k == 0) ≡ true = eq-eqb k 0 e in rw zero (ap (λ j. layers_bound (counting_layers count j)) e ∙ one-step count))
+  | inr ne ↦ (let some : (k == 0) ≡ false = ne_eqb k 0 ne in rw some (more-steps count k (omega (arith, ne))))
 ]

@@ -10,3 +10,6 @@ pub mod Blocks
 pub mod EnoughNodes
 pub mod TooFewNodes
 pub mod Closing
+pub mod Within
+pub mod Valid
+pub mod TopFound

@@ -2,14 +2,14 @@
 -- coefficient is 0, a power of two or at least c (Blondin, Esparza, Jaax 2018). The greatest one of c is that of 2^top.
 use Rattle.std.specs.Prelude.{◌≡◌, ◌≤◌, ◌<◌, ℕ, zero, suc, ◌+◌, ◌-◌, ◌^◌, ◌%◌, Bool, true, ◌&&◌, ◌==◌, nat_le, nat_lt}
 use Rattle.std.specs.Prelude.{if◌then◌else◌, List, [], ◌∷◌, ◌++◌, length, map, flat_map, slice_index_or, ℤ}
-use Rattle.std.specs.Prelude.{Option, None, find}
+use Rattle.std.specs.Prelude.{Option, None, find, All}
 use Rattle.std.specs.List.{range_with_len, list_all}
 use Rattle.std.specs.Fmt.{decimal}
 use Rattle.pop_net.specs.declared.leaf.Move.{Move}
 use Rattle.pop_net.specs.LeafModel.{LeafModel}
 use Rattle.pres_ast.specs.PredModel.{IsAtomSum}
 use Rattle.comp_powers_leaf.specs.PowersLeaf.{has_bit}
-use Rattle.comp_flock.specs.declared.limits.TheConstants.{POWER_LIMIT}
+use Rattle.comp_flock.specs.declared.limits.TheConstants.{POWER_LIMIT, PLACE_LIMIT}
 use Rattle.comp_flock.specs.FlockLeaf.{is_counted, says_enough, enough_for, conversion_move, flock_start}
 use Rattle.comp_flock.specs.FlockLeaf.{flock_state_count, flock_output}
 
@@ -46,6 +46,12 @@ worths c top = (0 ∷ map (λ i. 2 ^ i) (range_with_len 0 top)) ++ prefixes c (t
 
 abbrev pub worth_in : List ℕ → ℕ → ℕ
 worth_in ws q = slice_index_or ws q 0
+
+-- the worths of k + 2 states, none above the limit
+pub record AreWorths (ws : List ℕ) (k : ℕ) : Type 0 where
+  pub long : length ws ≡ k + 2
+  pub few : k ≤ PLACE_LIMIT
+  pub small : All (λ n. n ≤ 2 ^ POWER_LIMIT) ws
 
 -- ---- moves: two agents that are worth c or more become full, state k + 1; two that are worth as much as the next state
 -- join; and a full one turns all others

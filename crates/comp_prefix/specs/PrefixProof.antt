@@ -1,28 +1,18 @@
--- PrefixProof: the layer, the trees and the whole proof for a built leaf of prefixes with k + 2 states. The full one is
+-- PrefixProof: the trees and the whole proof for a built leaf of prefixes with k + 2 states. The full one is
 -- state k + 1, and the other prefixes are the states from top + 1 to k.
 use Rattle.std.specs.Prelude.{ℕ, ◌+◌, ◌-◌, ◌^◌, ◌==◌, nat_lt, if◌then◌else◌, Bool, true, false, not, List, [], ◌∷◌, ◌++◌}
 use Rattle.std.specs.Prelude.{map, length, ℤ, pos, neg_ℤ}
 use Rattle.std.specs.List.{range_with_len}
 use Rattle.pop_net.specs.LeafModel.{LeafModel}
-use Rattle.cert_base.specs.declared.layer.Layer.{Layer}
 use Rattle.cert_base.specs.declared.node.Node.{Node}
-use Rattle.cert_base.specs.declared.node.Node.TheVariants.{Present, Twin, Siphon, Open}
+use Rattle.cert_base.specs.declared.node.Node.TheVariants.{Present, Twin, Open}
 use Rattle.cert_base.specs.declared.proof.LeafProof.{LeafProof}
 use Rattle.cert_base.specs.Rows.{zeros}
 use Rattle.comp_trees.specs.LeaderTree.{weighed_node, mix_over, company_of, leader_nodes}
 use Rattle.comp_flock.specs.declared.limits.TheConstants.{POWER_LIMIT}
 use Rattle.comp_flock.specs.FlockLeaf.{says_enough, enough_for, flock_state_count}
-use Rattle.comp_flock.specs.FlockProof.{flock_weight, for_states, converted_mix, start_mix, never_mix, offset_pred_of}
+use Rattle.comp_flock.specs.FlockProof.{counting_layers, for_states, converted_mix, full_tree, offset_pred_of}
 use Rattle.comp_prefix.specs.PrefixLeaf.{worth_in, bound_worths, last_place, prefix_leaf_of}
-
--- ---- the layer: all moves
-
-abbrev pub prefix_layers : LeafModel → ℕ → List Layer
-prefix_layers leaf k =
-    record {
-      moves = range_with_len 0 (length leaf.moves);
-      weights = map (flock_weight k) (range_with_len 0 (flock_state_count k));
-    } ∷ []
 
 -- ---- the nodes
 
@@ -80,10 +70,7 @@ enough_tree leaf ws k top =
     ++ (prefix_nodes leaf ws k top ++ weighed_node (converted_mix k) ∷ [])
 
 abbrev pub too_few_tree : List ℕ → ℕ → ℕ → List Node
-too_few_tree ws c k =
-    Open (flock_state_count k + 1) ∷ Siphon ((k + 1) ∷ []) ∷ weighed_node (first_mix ws c k)
-    ∷ weighed_node (start_mix c k)
-    ∷ weighed_node (never_mix k) ∷ []
+too_few_tree ws c k = full_tree c k (first_mix ws c k)
 
 abbrev pub prefix_tree : Bool → LeafModel → List ℕ → ℕ → ℕ → ℕ → List Node
 prefix_tree true leaf ws c k top = enough_tree leaf ws k top
@@ -101,7 +88,7 @@ abbrev pub prefix_part : List ℤ → ℤ → ℕ → LeafProof
 prefix_part coefs bound top =
     record {
       pred = offset_pred_of coefs bound;
-      layers = prefix_layers (prefix_leaf_of coefs bound top) (last_place bound top);
+      layers = counting_layers (length (prefix_leaf_of coefs bound top).moves) (last_place bound top);
       on_true = bound_tree coefs bound top (says_enough bound);
       on_false = bound_tree coefs bound top (not (says_enough bound));
     }
