@@ -1,18 +1,17 @@
 -- Sums over ranges of states of what is counted for each, by the variable that they are looked up at.
-use Rattle.std.proofs.Common.{◌≡◌, ◌≢◌, ◌⊎◌, ◌∙◌, inl, inr, ℕ, zero, suc, ◌+◌, ◌-◌, ◌<◌, ◌≤◌, Bool, true, false, List, [], ◌∷◌, length, refl, ap, sym, arith}
-use Rattle.std.specs.Prelude.{ℤ, pos, neg_ℤ, ◌+ℤ◌, ◌*ℤ◌, ◌==◌, ◌&&◌, not, if◌then◌else◌}
+use Rattle.std.proofs.Common.{◌≡◌, ◌≢◌, ◌⊎◌, ◌∙◌, inl, inr, ℕ, zero, suc, ◌+◌, ◌-◌, ◌<◌, ◌≤◌, List, length, refl, ap, arith}
+use Rattle.std.specs.Prelude.{ℤ, pos, neg_ℤ, ◌*ℤ◌, ◌==◌}
 use Rattle.std.specs.List.{range_with_len}
 use Rattle.std.proofs.lemmas.Int.{ints}
-use Rattle.std.proofs.Math.IntN.{*ℤ-zero, zero-*ℤ}
+use Rattle.std.proofs.Math.IntN.{*ℤ-zero}
 use Rattle.std.proofs.lemmas.Bool.{ne_eqb, eq-eqb}
 use Rattle.pop_net.specs.LeafModel.{LeafModel}
-use Rattle.cert_base.specs.FactsAndCases.{indicator, states_of, can_meet_in, absent_fact, not_twice}
+use Rattle.cert_base.specs.FactsAndCases.{indicator, absent_fact, not_twice}
 use Rattle.cert_base.specs.WeightedSums.{coefficient, total}
 use Rattle.cert_base.proofs.FlowSums.{total-same, total-neg, mul-neg, times-one}
-use Rattle.comp_trees.specs.LeaderTree.{company_of}
-use Rattle.comp_trees.proofs.LeaderEnds.{absent-at, total-filter}
-use Rattle.comp_flock.proofs.OwnFacts.{not_twice-at, total-counts, total-others}
-use Rattle.comp_prefix.proofs.Worths.{total-split}
+use Rattle.comp_trees.proofs.LeaderEnds.{absent-at}
+use Rattle.comp_flock.proofs.OwnFacts.{not_twice-at}
+use Rattle.comp_prefix.proofs.WorthLaws.{total-split}
 
 pub range-none : (f : ℕ → ℤ) (a m : ℕ) → ((q : ℕ) → a ≤ q → q < a + m → f q ≡ pos 0) → total f (range_with_len a m) ≡ pos 0
 range-none f a zero none = refl
@@ -55,22 +54,3 @@ module _ (leaf : LeafModel) where
   pub absents-at : (f : ℕ → ℤ) (qs : List ℕ) (x : ℕ) → total (λ q. f q *ℤ coefficient x (absent_fact leaf q)) qs ≡ total (λ q. f q *ℤ indicator ((n + q) == x)) qs
   absents-at f qs x =
       total-same (λ q. f q *ℤ coefficient x (absent_fact leaf q)) (λ q. f q *ℤ indicator ((n + q) == x)) qs (λ q. ap (λ c. f q *ℤ c) (absent-at leaf q x))
-
-  -- of the states that one rules out
-  abbrev pub rules_out : ℕ → ℕ → Bool
-  rules_out p q = not (q == p) && can_meet_in leaf p q
-
-  company-is : (f : ℕ → ℤ) (p x : ℕ) → total (λ q. f q *ℤ coefficient x (absent_fact leaf q)) (company_of leaf p) ≡ total (λ q. (if rules_out p q then f q else pos 0) *ℤ indicator ((n + q) == x)) (states_of leaf)
-  company-is f p x =
-      total-filter (λ q. f q *ℤ coefficient x (absent_fact leaf q)) (rules_out p) (states_of leaf)
-      ∙ total-same (λ q. if rules_out p q then (f q *ℤ coefficient x (absent_fact leaf q)) else pos 0) (λ q. (if rules_out p q then f q else pos 0) *ℤ indicator ((n + q) == x)) (states_of leaf) (λ q. each q (rules_out p q))
-    where
-      each : (q : ℕ) (b : Bool) → (if b then (f q *ℤ coefficient x (absent_fact leaf q)) else pos 0) ≡ ((if b then f q else pos 0) *ℤ indicator ((n + q) == x))
-      each q true = ap (λ c. f q *ℤ c) (absent-at leaf q x)
-      each q false = sym (zero-*ℤ (indicator ((n + q) == x)))
-
-  pub company-at : (f : ℕ → ℤ) (p z : ℕ) → z < length leaf.states → total (λ q. f q *ℤ coefficient (n + z) (absent_fact leaf q)) (company_of leaf p) ≡ (if rules_out p z then f z else pos 0)
-  company-at f p z l = company-is f p (n + z) ∙ total-counts n (λ q. if rules_out p q then f q else pos 0) (length leaf.states) z l
-
-  pub company-past : (f : ℕ → ℤ) (p x : ℕ) → ((q : ℕ) → q < length leaf.states → (n + q) ≢ x) → total (λ q. f q *ℤ coefficient x (absent_fact leaf q)) (company_of leaf p) ≡ pos 0
-  company-past f p x ne = company-is f p x ∙ total-others n (λ q. if rules_out p q then f q else pos 0) (length leaf.states) x ne

@@ -26,11 +26,11 @@ use Rattle.comp_flock.proofs.Closing.{filter-all}
 use Rattle.comp_flock.proofs.FullNodes.{full, IsCounting, converted_facts, converted_closes, start_facts, start_closes, never_facts, never_long, never_closes}
 use Rattle.comp_prefix.specs.PrefixLeaf.{prefix_state_name, prefix_moves, prefix_leaf_with}
 use Rattle.comp_prefix.specs.PrefixProof.{with_mix, without_mix, first_mix, prefix_nodes, enough_tree, too_few_tree}
-use Rattle.comp_prefix.proofs.Worths.{high, no-more}
+use Rattle.comp_prefix.proofs.WorthLaws.{high, no-more}
 use Rattle.comp_prefix.proofs.Meetings.{full-meets, twin-meets, prefix-meets}
 use Rattle.comp_prefix.proofs.Formed.{states-long}
 use Rattle.comp_prefix.proofs.Covered.{IsCovered, is-counting}
-use Rattle.comp_prefix.proofs.EnoughNodes.{fixed, prefix_facts, without_closes, present_facts, with_closes}
+use Rattle.comp_prefix.proofs.EnoughNodes.{fixed, prefix_facts, without_closes, with_closes}
 use Rattle.comp_prefix.proofs.TooFewNodes.{first_facts, first_closes, length-taken}
 use Rattle.list_laws.proofs.Ranges.{all_range, range_one_more}
 use Rattle.list_laws.proofs.Lists.{at_end}

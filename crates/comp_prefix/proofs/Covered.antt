@@ -1,6 +1,6 @@
 -- What all nodes of a built leaf of prefixes rest on.
 use Rattle.std.proofs.Common.{◌≡◌, ◌∙◌, ℕ, ◌+◌, ◌^◌, ◌<◌, ◌≤◌, Bool, true, List, [], length, map, get_or, sym, arith}
-use Rattle.std.specs.Prelude.{ℤ, pos, All, nat_abs}
+use Rattle.std.specs.Prelude.{ℤ, pos, nat_abs}
 use Rattle.std.specs.List.{list_all, range_with_len}
 use Rattle.std.proofs.lemmas.List.{length-map}
 use Rattle.std.proofs.lemmas.List.Elements.{All-nil, All-get_or}

@@ -1,6 +1,6 @@
 -- The nodes of the tree where there are enough close: with a prefix, and with none.
 use Rattle.std.proofs.Common.{◌≡◌, ◌≢◌, ◌⊎◌, ◌∙◌, inl, inr, subst, ℕ, zero, suc, ◌+◌, ◌-◌, ◌^◌, ◌<◌, ◌≤◌, Bool, true, false, ◌&&◌, ◌||◌, List, [], ◌∷◌, ◌++◌, length, map, get_or, refl, ap, sym, arith}
-use Rattle.std.specs.Prelude.{ℤ, pos, negsuc, neg_ℤ, ◌+ℤ◌, ◌-ℤ◌, ◌*ℤ◌, ◌≤ℤ◌, ◌==◌, not, All, int_le, nat_abs, if◌then◌else◌}
+use Rattle.std.specs.Prelude.{ℤ, pos, negsuc, neg_ℤ, ◌+ℤ◌, ◌-ℤ◌, ◌*ℤ◌, ◌≤ℤ◌, ◌==◌, All, int_le, nat_abs, if◌then◌else◌}
 use Rattle.std.specs.List.{range_with_len}
 use Rattle.std.specs.Ordering.{int_eq}
 use Rattle.std.proofs.lemmas.Int.{ints}
@@ -10,18 +10,17 @@ use Rattle.std.proofs.lemmas.Bool.{cases_lt, cases_eq, eq-eqb, ne_eqb, lt-ltb}
 use Rattle.std.proofs.lemmas.List.{length-map, length-append, length-replicate, get_or-map}
 use Rattle.std.proofs.lemmas.List.Elements.{All-get_or}
 use Rattle.std.proofs.lemmas.List.FromFn.{length-map-range_with_len}
-use Rattle.pop_net.specs.declared.leaf.Move.{Move}
 use Rattle.pop_net.specs.LeafModel.{LeafModel}
 use Rattle.pres_ast.specs.PredModel.{PredModel}
 use Rattle.cert_base.specs.declared.fact.Fact.{Fact}
 use Rattle.cert_base.specs.Rows.{terms_from, zeros}
 use Rattle.cert_base.specs.ClosingTests.{row_of, closes_by_sum, may_add}
-use Rattle.cert_base.specs.FactsAndCases.{indicator, absent_fact, occurs_fact, alone_fact, not_twice, can_meet_in}
+use Rattle.cert_base.specs.FactsAndCases.{indicator, absent_fact, occurs_fact, alone_fact, not_twice}
 use Rattle.cert_base.specs.WeightedSums.{sum_of_facts, coefficient, constant_of, may_weigh, total}
 use Rattle.cert_base.proofs.WeightedSums.{weighted_sum-append, weighted_sum-zeros, may_weigh-append, may_weigh-zeros}
 use Rattle.cert_base.proofs.FlowSums.{weighted_sum-map, total-same, total-none, times-one, one-times, mul-neg}
 use Rattle.comp_trees.specs.LeaderTree.{mix_over, company_of}
-use Rattle.comp_trees.proofs.LeaderEnds.{absent-at, is_wrong, may_weigh-eqs, shifted}
+use Rattle.comp_trees.proofs.LeaderEnds.{absent-at, is_wrong, may_weigh-eqs, rules_out, none_out, out-state}
 use Rattle.comp_trees.proofs.Mixes.{all_facts, IsLow, mix_closes}
 use Rattle.comp_flock.specs.declared.limits.TheConstants.{POWER_LIMIT}
 use Rattle.comp_flock.specs.FlockLeaf.{says_enough, enough_for, flock_start}
@@ -31,13 +30,13 @@ use Rattle.comp_flock.proofs.Opened.{opened_row, opened_constant, enough-constan
 use Rattle.comp_flock.proofs.Starts.{enough-row}
 use Rattle.comp_prefix.specs.PrefixLeaf.{worth_in, prefix_moves, prefix_leaf_with}
 use Rattle.comp_prefix.specs.PrefixProof.{greatest_worth, lost_worth, is_low, kept_worth, ruled_worth, own_worth, with_mix, without_mix}
-use Rattle.comp_prefix.proofs.Worths.{not_less, high, no-more, not-full, low-lesser, own-total, kept-total}
+use Rattle.comp_prefix.proofs.WorthLaws.{not_less, no-more, not-full, low-lesser, own-total, kept-total}
 use Rattle.comp_prefix.proofs.MoveLists.{all_moves}
 use Rattle.comp_prefix.proofs.Meetings.{prefix-meets}
 use Rattle.comp_prefix.proofs.Starts.{IsStart, start-at}
 use Rattle.comp_prefix.proofs.Formed.{states-long}
 use Rattle.comp_prefix.proofs.Covered.{IsCovered, is-plain}
-use Rattle.comp_prefix.proofs.Blocks.{block-past, block-out, block-in, twins-at, absents-at, rules_out, company-at, company-past}
+use Rattle.comp_prefix.proofs.Blocks.{block-past, block-out, block-in, twins-at, absents-at}
 
 module _ (coefs : List ℤ) (bound : ℤ) (ws : List ℕ) (top k : ℕ) (is : IsCovered coefs bound ws top k) where
   -- the value that says that there are enough
@@ -349,7 +348,7 @@ module _ (coefs : List ℤ) (bound : ℤ) (ws : List ℕ) (top k : ℕ) (is : Is
         let sum = with_sum (coefficient x) in
         let first = twins-at leaf kept (range_with_len 1 top) x in
         let none = block-past n kept 1 top x (λ q l m. ne q (omega (arith, m, low))) in
-        let second = company-past leaf ruled p x (λ q l. ne q (omega (arith, l, long))) in
+        let second = none_out leaf p ruled x (λ q l. ne q (omega (arith, l, long))) in
         let third = ap (λ a. neg_ℤ (own_worth ws p) *ℤ a) (alone-is x ∙ ap indicator (ne_eqb (n + p) x (ne p (omega (arith, below))))) ∙ *ℤ-zero (neg_ℤ (own_worth ws p)) in
         omega (arith, ints, sum, first, none, second, third)
 
@@ -371,7 +370,7 @@ module _ (coefs : List ℤ) (bound : ℤ) (ws : List ℕ) (top k : ℕ) (is : Is
         let sum = with_sum (coefficient (n + p)) in
         let first = twins-at leaf kept (range_with_len 1 top) (n + p) in
         let none = block-out n kept 1 top p (inr (omega (arith, above))) in
-        let second = company-at leaf ruled p p (omega (arith, below, long)) ∙ ap (λ (b : Bool). if b then ruled p else pos 0) (let self : rules_out leaf p p ≡ false = (let e = eq-eqb p p refl in rw e refl) in self) in
+        let second = out-state leaf p ruled p (omega (arith, below, long)) ∙ ap (λ (b : Bool). if b then ruled p else pos 0) (let self : rules_out leaf p p ≡ false = (let e = eq-eqb p p refl in rw e refl) in self) in
         let third = ap (λ a. neg_ℤ (own_worth ws p) *ℤ a) (alone-is (n + p) ∙ ap indicator (eq-eqb (n + p) (n + p) refl)) ∙ times-one (neg_ℤ (own_worth ws p)) in
         let f = size-other p below in
         omega (arith, ints, sum, first, none, second, third, f)
@@ -384,7 +383,7 @@ module _ (coefs : List ℤ) (bound : ℤ) (ws : List ℕ) (top k : ℕ) (is : Is
         let low = is.chain.low in
         let sum = with_sum (coefficient (n + z)) in
         let first = twins-at leaf kept (range_with_len 1 top) (n + z) in
-        let second = company-at leaf ruled p z (omega (arith, l, long)) ∙ out (rules_out leaf p z) (ap (λ (b : Bool). if b then pos 0 else lost z) test) in
+        let second = out-state leaf p ruled z (omega (arith, l, long)) ∙ out (rules_out leaf p z) (ap (λ (b : Bool). if b then pos 0 else lost z) test) in
         let third = alone-no z ne in
         let keeps : kept z ≡ pos (w z) = ap (λ (b : Bool). if b then pos (w z) else pos 0) test in
         let f = size-other z (omega (arith, lesser, low)) in
@@ -409,7 +408,7 @@ module _ (coefs : List ℤ) (bound : ℤ) (ws : List ℕ) (top k : ℕ) (is : Is
         let sum = with_sum (coefficient (n + z)) in
         let first = twins-at leaf kept (range_with_len 1 top) (n + z) in
         let none = kept-at z (λ m. ap (λ (b : Bool). if b then pos (w z) else pos 0) test) in
-        let second = company-at leaf ruled p z (omega (arith, l, long)) ∙ ap (λ (b : Bool). if b then ruled z else pos 0) out ∙ ap (λ (b : Bool). if b then pos 0 else lost z) test in
+        let second = out-state leaf p ruled z (omega (arith, l, long)) ∙ ap (λ (b : Bool). if b then ruled z else pos 0) out ∙ ap (λ (b : Bool). if b then pos 0 else lost z) test in
         let third = alone-no z ne in
         omega (arith, ints, sum, first, none, second, third)
 

@@ -1,5 +1,5 @@
 -- The built leaf of prefixes is well formed.
-use Rattle.std.proofs.Common.{◌≡◌, ◌⊎◌, ◌∙◌, inl, inr, subst, ℕ, ◌+◌, ◌-◌, ◌^◌, ◌<◌, ◌≤◌, Bool, true, List, [], ap, length, map, sym, arith}
+use Rattle.std.proofs.Common.{◌≡◌, ◌⊎◌, ◌∙◌, inl, inr, subst, ℕ, ◌+◌, ◌^◌, ◌<◌, ◌≤◌, Bool, true, List, [], ap, length, map, sym, arith}
 use Rattle.std.specs.Prelude.{ℤ, All}
 use Rattle.std.specs.List.{range_with_len, list_all}
 use Rattle.std.proofs.lemmas.Bool.{cases_lt}
@@ -17,7 +17,7 @@ use Rattle.comp_flock.specs.declared.limits.TheConstants.{POWER_LIMIT}
 use Rattle.comp_flock.specs.FlockLeaf.{is_counted, says_enough, enough_for, flock_start, flock_output}
 use Rattle.comp_prefix.specs.PrefixLeaf.{worth_in, prefix_state_name, prefix_moves, prefix_leaf_with, prefix_leaf_of, bound_worths, last_place, IsPrefix}
 use Rattle.comp_prefix.proofs.Chain.{IsChain, worths-chain}
-use Rattle.comp_prefix.proofs.Worths.{rising, no-more}
+use Rattle.comp_prefix.proofs.WorthLaws.{rising, no-more}
 use Rattle.comp_prefix.proofs.MoveLists.{all_moves, moves-few}
 use Rattle.comp_prefix.proofs.Starts.{starts-low}
 

@@ -1,5 +1,5 @@
 pub mod Chain
-pub mod Worths
+pub mod WorthLaws
 pub mod MoveLists
 pub mod Meetings
 pub mod Layers
@@ -13,3 +13,4 @@ pub mod Closing
 pub mod Within
 pub mod Valid
 pub mod TopFound
+pub mod Building

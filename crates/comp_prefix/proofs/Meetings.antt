@@ -1,6 +1,6 @@
 -- Which states of a built leaf of prefixes can meet.
-use Rattle.std.proofs.Common.{◌≡◌, ◌≢◌, ◌⊎◌, ◌∙◌, inl, inr, subst, ℕ, zero, suc, ◌+◌, ◌^◌, ◌<◌, ◌≤◌, Bool, true, false, ◌&&◌, List, refl, ap, sym, arith}
-use Rattle.std.specs.Prelude.{Contains, not}
+use Rattle.std.proofs.Common.{◌≡◌, ◌⊎◌, inl, inr, subst, ℕ, zero, suc, ◌+◌, ◌<◌, ◌≤◌, true, false, List, refl, arith}
+use Rattle.std.specs.Prelude.{Contains}
 use Rattle.std.specs.List.{list_any}
 use Rattle.std.proofs.lemmas.Bool.{cases_lt}
 use Rattle.pop_net.specs.declared.leaf.Move.{Move}
@@ -13,7 +13,7 @@ use Rattle.comp_flock.proofs.MoveLists.{differ_pair, conversion-loud}
 use Rattle.comp_powers_leaf.proofs.Bits.{double}
 use Rattle.comp_prefix.specs.PrefixLeaf.{worth_in, full_move, join_move, prefix_moves}
 use Rattle.comp_prefix.proofs.Chain.{IsChain}
-use Rattle.comp_prefix.proofs.Worths.{step-up, high, far, twice-worth, no-more}
+use Rattle.comp_prefix.proofs.WorthLaws.{step-up, high, far, twice-worth}
 use Rattle.comp_prefix.proofs.MoveLists.{has_full, has_join, has_conversion}
 
 module _ (ws : List ℕ) (c top k : ℕ) (is : IsChain ws c top k) where

@@ -1,21 +1,19 @@
 -- The moves of a built leaf of prefixes.
-use Rattle.std.proofs.Common.{◌≡◌, ◌≢◌, ◌⊎◌, ◌∙◌, inl, inr, subst, ℕ, zero, suc, ◌+◌, ◌*◌, ◌<◌, ◌≤◌, Bool, true, false, List, [], ◌∷◌, ◌++◌, length, map, get_or, refl, ap, sym, arith}
+use Rattle.std.proofs.Common.{◌≡◌, ◌≢◌, ◌⊎◌, inl, inr, subst, ℕ, zero, suc, ◌+◌, ◌*◌, ◌<◌, ◌≤◌, Bool, true, false, List, [], ◌∷◌, length, map, get_or, refl, sym, arith}
 use Rattle.std.specs.Prelude.{◌==◌, nat_le, if◌then◌else◌, All, AllPairs, Contains, flat_map}
-use Rattle.std.specs.List.{range_with_len, list_any}
-use Rattle.std.proofs.lemmas.Bool.{ne_eqb, eq-eqb, le-leb, leb-true, leb-false, lt-leb, eqb-true}
+use Rattle.std.specs.List.{range_with_len}
+use Rattle.std.proofs.lemmas.Bool.{eq-eqb, le-leb, leb-true, leb-false, lt-leb, eqb-true}
 use Rattle.std.proofs.lemmas.List.{length-append}
-use Rattle.std.proofs.lemmas.List.FromFn.{length-map-range_with_len, length-range_with_len}
-use Rattle.std.proofs.lemmas.List.Elements.{All-nil, All-cons, All-head, All-tail, All-append, All-contains, Contains-append_left, Contains-append_right}
+use Rattle.std.proofs.lemmas.List.FromFn.{length-map-range_with_len}
+use Rattle.std.proofs.lemmas.List.Elements.{All-nil, All-cons, All-append, Contains-append_left, Contains-append_right}
 use Rattle.pop_net.specs.declared.leaf.Move.{Move}
-use Rattle.pop_net.specs.LeafModel.{silent_move, same_pair}
-use Rattle.pop_net.specs.Reaction.{takes_states, Differ}
-use Rattle.pop_net.proofs.Silent.{takes-own, same-other}
-use Rattle.cert_base.proofs.WeightedSums.{list_any-from}
+use Rattle.pop_net.specs.LeafModel.{same_pair}
+use Rattle.pop_net.specs.Reaction.{Differ}
 use Rattle.comp_trees.proofs.Members.{all_flat, has_flat, range_has}
 use Rattle.comp_trees.proofs.SortedLayers.{AllPairs-append}
 use Rattle.comp_trees.proofs.Single.{pairs_flat, pairs_map, differ-by}
 use Rattle.comp_flock.specs.FlockLeaf.{conversion_move}
-use Rattle.comp_flock.proofs.MoveLists.{all_conversions, differ_pair, conversion-loud}
+use Rattle.comp_flock.proofs.MoveLists.{all_conversions, differ_pair}
 use Rattle.list_laws.proofs.Ranges.{all_range}
 use Rattle.list_laws.proofs.Lists.{has_first, has_map}
 use Rattle.comp_prefix.specs.PrefixLeaf.{worth_in, full_move, join_move, pair_moves, moves_from, prefix_moves}

@@ -1,5 +1,5 @@
 -- What is known of the place that is found.
-use Rattle.std.proofs.Common.{◌≡◌, ◌⊎◌, ◌∙◌, inl, inr, ℕ, zero, suc, ◌+◌, ◌-◌, ◌^◌, ◌<◌, ◌≤◌, Bool, true, false, ◌&&◌, List, refl, ap, sym, zero-add, arith}
+use Rattle.std.proofs.Common.{◌≡◌, ◌∙◌, ℕ, zero, suc, ◌+◌, ◌^◌, ◌<◌, ◌≤◌, Bool, true, false, ◌&&◌, List, refl, ap, arith}
 use Rattle.std.specs.Prelude.{ℤ, pos, negsuc, Some, None, find, nat_le, nat_lt, if◌then◌else◌}
 use Rattle.std.specs.List.{range_with_len, list_all}
 use Rattle.std.proofs.lemmas.Bool.{leb-true, le-leb, lt-ltb, ltb-true, ltb-false, and_parts}
@@ -8,7 +8,7 @@ use Rattle.comp_powers_leaf.proofs.Bits.{power-le}
 use Rattle.comp_flock.specs.declared.limits.TheConstants.{POWER_LIMIT}
 use Rattle.comp_flock.specs.FlockLeaf.{is_counted, says_enough, enough_for}
 use Rattle.comp_flock.proofs.PowerFound.{find-first, find-any, find-in}
-use Rattle.comp_prefix.specs.PrefixLeaf.{IsPrefix, prefix_top, top_of_counted}
+use Rattle.comp_prefix.specs.PrefixLeaf.{IsPrefix, prefix_top}
 
 module _ (coefs : List ℤ) (bound : ℤ) where
   abbrev c : ℕ

@@ -1,5 +1,5 @@
 -- The proof of a built leaf of prefixes is valid and within the limits.
-use Rattle.std.proofs.Common.{◌≡◌, ◌∙◌, subst, ℕ, ◌+◌, ◌≤◌, ◌^◌, Bool, true, false, List, [], length, refl, ap, sym, arith}
+use Rattle.std.proofs.Common.{◌≡◌, ◌∙◌, ℕ, Bool, true, false, List, [], length, refl, ap, arith}
 use Rattle.std.specs.Prelude.{ℤ, not}
 use Rattle.pop_net.specs.LeafModel.{LeafModel}
 use Rattle.pres_ast.specs.PredModel.{PredModel}
@@ -17,7 +17,7 @@ use Rattle.comp_prefix.specs.PrefixLeaf.{bound_worths, last_place, prefix_leaf_o
 use Rattle.comp_prefix.specs.PrefixProof.{prefix_tree, bound_tree, prefix_part}
 use Rattle.comp_prefix.proofs.MoveLists.{moves-few, moves-single}
 use Rattle.comp_prefix.proofs.Layers.{layers-valid}
-use Rattle.comp_prefix.proofs.Formed.{bound-chain, places-few, top-few, states-long, prefix-formed}
+use Rattle.comp_prefix.proofs.Formed.{bound-chain, places-few, states-long, prefix-formed}
 use Rattle.comp_prefix.proofs.Covered.{prefix-covered}
 use Rattle.comp_prefix.proofs.Closing.{tree-enough, tree-too-few}
 use Rattle.comp_prefix.proofs.Within.{layers-within, tree-within}

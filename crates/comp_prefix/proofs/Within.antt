@@ -1,5 +1,5 @@
 -- The proof of a built leaf of prefixes is within the limits.
-use Rattle.std.proofs.Common.{◌≡◌, ◌∙◌, ℕ, zero, suc, ◌+◌, ◌-◌, ◌^◌, ◌<◌, ◌≤◌, Bool, true, false, ◌&&◌, List, [], ◌∷◌, ◌++◌, length, map, arith}
+use Rattle.std.proofs.Common.{ℕ, ◌+◌, ◌-◌, ◌^◌, ◌<◌, ◌≤◌, Bool, true, false, ◌&&◌, List, [], ◌∷◌, ◌++◌, length, map, arith}
 use Rattle.std.specs.Prelude.{ℤ, pos, neg_ℤ, All, if◌then◌else◌, ◌==◌, not}
 use Rattle.std.specs.List.{range_with_len}
 use Rattle.std.proofs.lemmas.List.{length-append, length-map, length-replicate}
@@ -13,15 +13,15 @@ use Rattle.cert_base.specs.declared.node.Node.TheVariants.{Present, Twin, Siphon
 use Rattle.cert_base.specs.Rows.{zeros}
 use Rattle.cert_base.specs.FactsAndCases.{states_of, can_meet_in}
 use Rattle.cert_base.specs.ProofLimits.{IsSmall, IsNodeWithin, AreNodesWithin, IsLayerWithin}
-use Rattle.comp_trees.specs.LeaderTree.{weighed_node, leader_nodes, company_of}
-use Rattle.comp_trees.proofs.Limits.{all-zeros, one}
+use Rattle.comp_trees.specs.LeaderTree.{weighed_node, company_of}
+use Rattle.comp_trees.proofs.Limits.{all-zeros, one, nodes-long, nodes-within}
 use Rattle.comp_flock.specs.declared.limits.TheConstants.{POWER_LIMIT}
-use Rattle.comp_flock.specs.FlockProof.{flock_weight, for_states, counting_layers, converted_mix, start_mix, never_mix}
+use Rattle.comp_flock.specs.FlockProof.{flock_weight, counting_layers, converted_mix, start_mix, never_mix}
 use Rattle.comp_flock.proofs.Within.{weight-small, mix-within, converted-within, start-within, never-within, full-within}
 use Rattle.comp_prefix.specs.PrefixLeaf.{worth_in, prefix_leaf_with}
-use Rattle.comp_prefix.specs.PrefixProof.{greatest_worth, lost_worth, lesser_worth, is_low, kept_worth, ruled_worth, own_worth, with_mix, without_mix, first_mix, prefix_nodes, enough_tree, too_few_tree, prefix_tree}
+use Rattle.comp_prefix.specs.PrefixProof.{lost_worth, lesser_worth, is_low, kept_worth, ruled_worth, own_worth, with_mix, without_mix, first_mix, prefix_nodes, enough_tree, too_few_tree, prefix_tree}
 use Rattle.comp_prefix.proofs.Chain.{IsChain}
-use Rattle.comp_prefix.proofs.Worths.{no-more}
+use Rattle.comp_prefix.proofs.WorthLaws.{no-more}
 use Rattle.comp_prefix.proofs.Formed.{states-long}
 use Rattle.list_laws.proofs.Ranges.{all_range}
 use Rattle.list_laws.proofs.Numbers.{size-neg}
@@ -38,16 +38,6 @@ layers-within count k few short =
       weights = All-map IsSmall (flock_weight k) (range_with_len 0 (k + 2)) (all_range (λ q. IsSmall (flock_weight k q)) 0 (k + 2) (λ q l m. weight-small k q));
     })
     (All-nil IsLayerWithin)
-
-leader-nodes-within : (ends : ℕ → Node) (last : Node) (n p m : ℕ) → p + m ≤ n → n < 2 ^ 16 → IsNodeWithin last → ((q : ℕ) → q < n → IsNodeWithin (ends q)) → All IsNodeWithin (leader_nodes ends last p m)
-leader-nodes-within ends last n p zero l few h each = All-cons IsNodeWithin last [] h (All-nil IsNodeWithin)
-leader-nodes-within ends last n p (suc m) l few h each =
-    All-cons IsNodeWithin (Present p) (leader_nodes ends last (p + 1) m ++ ends p ∷ []) (omega (arith, l, few))
-    (All-append IsNodeWithin (leader_nodes ends last (p + 1) m) (ends p ∷ []) (leader-nodes-within ends last n (p + 1) m (omega (arith, l)) few h each) (All-cons IsNodeWithin (ends p) [] (each p (omega (arith, l))) (All-nil IsNodeWithin)))
-
-leader-nodes-long : (ends : ℕ → Node) (last : Node) (p m : ℕ) → length (leader_nodes ends last p m) ≡ m + m + 1
-leader-nodes-long ends last p zero = omega arith
-leader-nodes-long ends last p (suc m) = let e = leader-nodes-long ends last (p + 1) m in omega (arith, length-append (leader_nodes ends last (p + 1) m) (ends p ∷ []), e)
 
 pub company-short : (leaf : LeafModel) (p : ℕ) → length (company_of leaf p) ≤ length leaf.states
 company-short leaf p =
@@ -163,13 +153,13 @@ module _ (ws : List ℕ) (c top k : ℕ) (is : IsChain ws c top k) (most : c ≤
         let front = Open (k + 2 + 1) ∷ Present (k + 1) ∷ map Twin (range_with_len 1 top) in
         let nodes = prefix_nodes leaf ws k top in
         let back = nodes ++ weighed_node (converted_mix k) ∷ [] in (
-          (omega (arith, length-append front back, length-append nodes (weighed_node (converted_mix k) ∷ []), length-map-range_with_len Twin 1 top, leader-nodes-long ends last (top + 1) (k - top), low, short)),
+          (omega (arith, length-append front back, length-append nodes (weighed_node (converted_mix k) ∷ []), length-map-range_with_len Twin 1 top, nodes-long ends last (top + 1) (k - top), low, short)),
           All-append IsNodeWithin front back
               (All-cons IsNodeWithin (Open (k + 2 + 1)) (Present (k + 1) ∷ map Twin (range_with_len 1 top)) (omega (arith, short))
               (All-cons IsNodeWithin (Present (k + 1)) (map Twin (range_with_len 1 top)) (omega (arith, short))
               (All-map IsNodeWithin Twin (range_with_len 1 top) (all_range (λ q. q < 2 ^ 16) 1 top (λ q l m. omega (arith, m, low, short))))))
               (All-append IsNodeWithin nodes (weighed_node (converted_mix k) ∷ [])
-              (leader-nodes-within ends last (k + 1) (top + 1) (k - top) (omega (arith, low)) (omega (arith, short)) without-within (λ p l. with-within p (omega (arith, l))))
+              (nodes-within ends last (k + 1) (top + 1) (k - top) (omega (arith, low)) (omega (arith, short)) without-within (λ p l. with-within p (omega (arith, l))))
               (All-cons IsNodeWithin (weighed_node (converted_mix k)) [] (converted-within k few) (All-nil IsNodeWithin))),
         )
 

@@ -27,7 +27,7 @@ pub record IsPrefix (coefs : List ℤ) (bound : ℤ) (top : ℕ) : Type 0 where
 abbrev pub top_of_counted : Bool → ℕ → List ℤ → Option ℕ
 top_of_counted says c coefs =
     if nat_le c (2 ^ POWER_LIMIT) && list_all (is_counted says c) coefs then
-        find (λ k. nat_lt c (2 ^ (k + 1))) (range_with_len 0 (POWER_LIMIT + 1))
+    find (λ k. nat_lt c (2 ^ (k + 1))) (range_with_len 0 (POWER_LIMIT + 1))
     else None
 
 abbrev pub prefix_top : List ℤ → ℤ → Option ℕ

@@ -100,10 +100,10 @@ wrong_ruled_out leaf b p output at right meet z k wrong =
     let meets = meet z k wrong_out in
     rw (apart, meets) refl
 
-abbrev out_total : LeafModel → ℕ → (ℕ → ℤ) → ℕ → ℤ
+abbrev pub out_total : LeafModel → ℕ → (ℕ → ℤ) → ℕ → ℤ
 out_total leaf p f x = total (λ q. f q *ℤ coefficient x (absent_fact leaf q)) (company_of leaf p)
 
-none_out : (leaf : LeafModel) (p : ℕ) (f : ℕ → ℤ) (x : ℕ) → ((q : ℕ) → q < length leaf.states → (length leaf.inputs + q) ≢ x) → out_total leaf p f x ≡ pos 0
+pub none_out : (leaf : LeafModel) (p : ℕ) (f : ℕ → ℤ) (x : ℕ) → ((q : ℕ) → q < length leaf.states → (length leaf.inputs + q) ≢ x) → out_total leaf p f x ≡ pos 0
 none_out leaf p f x ne =
     total-filter (λ q. f q *ℤ coefficient x (absent_fact leaf q)) (rules_out leaf p) (states_of leaf)
     ∙ total-none_range (λ q. if rules_out leaf p q then (f q *ℤ coefficient x (absent_fact leaf q)) else pos 0) 0 (length leaf.states) (λ q l. each q (rules_out leaf p q) (ne q (omega arith)))
@@ -112,7 +112,7 @@ none_out leaf p f x ne =
     each q true n = ap (λ c. f q *ℤ c) (absent-at leaf q x ∙ ap indicator (ne_eqb (length leaf.inputs + q) x n)) ∙ *ℤ-zero (f q)
     each q false n = refl
 
-out-state : (leaf : LeafModel) (p : ℕ) (f : ℕ → ℤ) (z : ℕ) → z < length leaf.states → out_total leaf p f (length leaf.inputs + z) ≡ (if rules_out leaf p z then f z else pos 0)
+pub out-state : (leaf : LeafModel) (p : ℕ) (f : ℕ → ℤ) (z : ℕ) → z < length leaf.states → out_total leaf p f (length leaf.inputs + z) ≡ (if rules_out leaf p z then f z else pos 0)
 out-state leaf p f z l =
     let w : ℕ → ℤ = λ q. if rules_out leaf p q then f q else pos 0 in
     total-filter (λ q. f q *ℤ coefficient (length leaf.inputs + z) (absent_fact leaf q)) (rules_out leaf p) (states_of leaf)

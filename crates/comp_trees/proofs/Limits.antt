@@ -59,11 +59,11 @@ ascending a zero = tt
 ascending a (suc zero) = tt
 ascending a (suc (suc n)) = (omega arith, ascending (a + 1) (suc n))
 
-nodes-long : (ends : ℕ → Node) (last : Node) (p k : ℕ) → length (leader_nodes ends last p k) ≡ k + k + 1
+pub nodes-long : (ends : ℕ → Node) (last : Node) (p k : ℕ) → length (leader_nodes ends last p k) ≡ k + k + 1
 nodes-long ends last p zero = omega arith
 nodes-long ends last p (suc k) = let e = nodes-long ends last (p + 1) k in omega (arith, length-append (leader_nodes ends last (p + 1) k) (ends p ∷ []), e)
 
-nodes-within : (ends : ℕ → Node) (last : Node) (n p k : ℕ) → p + k ≤ n → n < 2 ^ 16 → IsNodeWithin last → ((q : ℕ) → q < n → IsNodeWithin (ends q)) → All IsNodeWithin (leader_nodes ends last p k)
+pub nodes-within : (ends : ℕ → Node) (last : Node) (n p k : ℕ) → p + k ≤ n → n < 2 ^ 16 → IsNodeWithin last → ((q : ℕ) → q < n → IsNodeWithin (ends q)) → All IsNodeWithin (leader_nodes ends last p k)
 nodes-within ends last n p zero l few h each = All-cons IsNodeWithin last [] h (All-nil IsNodeWithin)
 nodes-within ends last n p (suc k) l few h each =
     All-cons IsNodeWithin (Present p) (leader_nodes ends last (p + 1) k ++ ends p ∷ []) (omega arith)

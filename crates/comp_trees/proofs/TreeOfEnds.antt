@@ -9,10 +9,10 @@ use Rattle.cert_base.specs.declared.node.Node.{Node}
 use Rattle.cert_base.specs.declared.node.Node.TheVariants.{Present}
 use Rattle.comp_trees.specs.LeaderTree.{leader_nodes, leader_tree, tree_of_ends, top_nodes, weighed_node, no_leader_mix}
 
-reverse-cons : {A : Type 0} (x : A) (xs : List A) → reverse (x ∷ xs) ≡ reverse xs ++ x ∷ []
+pub reverse-cons : {A : Type 0} (x : A) (xs : List A) → reverse (x ∷ xs) ≡ reverse xs ++ x ∷ []
 reverse-cons x xs = reverse-append (x ∷ []) xs
 
-nodes-flat : (ends : ℕ → Node) (last : Node) (p k : ℕ) → leader_nodes ends last p k ≡ (map Present (range_with_len p k) ++ last ∷ []) ++ reverse (map ends (range_with_len p k))
+pub nodes-flat : (ends : ℕ → Node) (last : Node) (p k : ℕ) → leader_nodes ends last p k ≡ (map Present (range_with_len p k) ++ last ∷ []) ++ reverse (map ends (range_with_len p k))
 nodes-flat ends last p zero = refl
 nodes-flat ends last p (suc k) =
     let front = map Present (range_with_len (p + 1) k) ++ last ∷ [] in

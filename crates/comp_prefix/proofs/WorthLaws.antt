@@ -1,5 +1,5 @@
 -- What follows for states whose worths are a chain: which are worth more, and what two are worth together.
-use Rattle.std.proofs.Common.{[], ◌∷◌, ◌++◌, ◌≡◌, ◌≢◌, ◌⊎◌, ◌∙◌, inl, inr, ℕ, zero, suc, ◌+◌, ◌-◌, ◌^◌, ◌<◌, ◌≤◌, Bool, true, false, List, length, refl, ap, sym, zero-add, arith}
+use Rattle.std.proofs.Common.{[], ◌∷◌, ◌≡◌, ◌⊎◌, ◌∙◌, inl, inr, ℕ, zero, suc, ◌+◌, ◌-◌, ◌^◌, ◌<◌, ◌≤◌, Bool, true, false, List, refl, ap, zero-add, arith}
 use Rattle.std.specs.Prelude.{ℤ, pos, ◌+ℤ◌, ◌-ℤ◌, if◌then◌else◌, nat_lt}
 use Rattle.std.specs.List.{range_with_len}
 use Rattle.std.proofs.Math.Pow.{pow-lt}
@@ -7,7 +7,6 @@ use Rattle.std.proofs.lemmas.Int.{ints}
 use Rattle.std.proofs.lemmas.Bool.{cases_lt, lt-ltb, le-ltb}
 use Rattle.list_laws.proofs.Ranges.{range_next}
 use Rattle.cert_base.specs.WeightedSums.{total}
-use Rattle.cert_base.proofs.FlowSums.{times-one}
 use Rattle.comp_trees.proofs.HelperSums.{total-append}
 use Rattle.comp_powers_leaf.proofs.Bits.{double, some_power, power-le}
 use Rattle.comp_prefix.specs.PrefixLeaf.{worth_in}

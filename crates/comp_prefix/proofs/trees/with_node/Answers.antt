@@ -1,0 +1,8 @@
+use Rattle.std.proofs.Common.{◌∙◌, ◌≤◌, length, ap, arith}
+use Rattle.comp_prefix.proofs.Building.{with-short}
+use Rattle.comp_prefix.proofs.trees.with_node.Goals as goal
+
+pub weighed-requires : goal.weighed-requires
+weighed-requires c =
+    let low : c.args.top ≤ c.args.k = omega (arith, c.requires.top, c.requires.prefix) in
+    omega (arith, ap length (c.as_slice.ensures.value ∙ c.in_ok-multipliers.ensures), with-short c.args.worths.now c.args.k c.args.top c.requires.worths.few c.args.leaf.now c.args.p c.requires.states low c.requires.prefix)

@@ -1,0 +1,6 @@
+use Rattle.std.proofs.Common.{◌∙◌, length, ap, arith}
+use Rattle.comp_prefix.proofs.Building.{without-short}
+use Rattle.comp_prefix.proofs.trees.without_node.Goals as goal
+
+pub weighed-requires : goal.weighed-requires
+weighed-requires c = omega (arith, ap length (c.as_slice.ensures.value ∙ c.in_ok-multipliers.ensures), without-short c.args.worths.now c.args.k c.args.top c.requires.worths.few c.requires.top)

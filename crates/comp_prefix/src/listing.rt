@@ -1,0 +1,118 @@
+//! The moves of a leaf.
+
+ghost use Rattle.std.specs.Prelude.{◌≡◌, ◌≤◌, ◌+◌, ◌++◌, map, flat_map, IfOk, OnOk};
+ghost use Rattle.std.specs.List.{range_with_len};
+ghost use Rattle.comp_flock.specs.declared.limits.TheConstants.{PLACE_LIMIT};
+ghost use Rattle.comp_flock.specs.FlockLeaf.{conversion_move};
+ghost use Rattle.comp_prefix.specs.PrefixLeaf.{full_move as full_of, join_move as join_of, pair_moves, moves_from as from_of};
+ghost use Rattle.comp_prefix.specs.PrefixLeaf.{prefix_moves, AreWorths};
+
+use crate::worths::worth_in;
+use pop_io::NoMemory;
+use pop_net::Move;
+use std::alloc::Global;
+
+/// Both become full.
+fn full_move(k: u16, p: u16, q: u16) -> Move
+    requires { k ≤ PLACE_LIMIT }
+    ensures { result ≡ full_of k p q }
+{
+    Move {
+        p,
+        q,
+        r: k + 1,
+        s: k + 1,
+    }
+}
+
+/// One takes both, and the other keeps nothing.
+fn join_move(p: u16, q: u16) -> Move
+    requires { p ≤ PLACE_LIMIT }
+    ensures { result ≡ join_of p q }
+{
+    Move {
+        p,
+        q,
+        r: p + 1,
+        s: 0,
+    }
+}
+
+/// The move of two states that are not full, if they have one.
+fn push_pair(
+    moves: &mut Vec<Move>,
+    worths: &[u64],
+    enough: u64,
+    k: u16,
+    p: u16,
+    q: u16,
+) -> Result<(), NoMemory>
+    requires worths { AreWorths worths.now k }
+    requires first { p ≤ k }
+    requires second { q ≤ p }
+    ensures { OnOk result (moves.new.items ≡ moves.old.items ++ pair_moves worths.now enough k p q) }
+{
+    let sum = worth_in(worths, k, p) + worth_in(worths, k, q);
+    if enough <= sum {
+        moves.push(full_move(k, p, q))?;
+    } else if sum == worth_in(worths, k, p + 1) {
+        moves.push(join_move(p, q))?;
+    }
+    Ok(())
+}
+
+/// The moves of a state with those that are worth no more.
+fn moves_from(
+    alloc: Global,
+    worths: &[u64],
+    enough: u64,
+    k: u16,
+    p: u16,
+) -> Result<Vec<Move>, NoMemory>
+    requires worths { AreWorths worths.now k }
+    requires first { p ≤ k }
+    ensures { IfOk result (λ moves. moves.items ≡ from_of worths.now enough k p) }
+{
+    let mut moves = Vec::new(alloc);
+    for q in 0..p + 1 {
+        push_pair(&mut moves, worths, enough, k, p, q)?;
+    }
+    Ok(moves)
+}
+
+/// The moves of all states that are not full.
+fn pairs(alloc: Global, worths: &[u64], enough: u64, k: u16) -> Result<Vec<Move>, NoMemory>
+    requires { AreWorths worths.now k }
+    ensures { IfOk result (λ moves. moves.items ≡ flat_map (from_of worths.now enough k) (range_with_len 0 (k + 1))) }
+{
+    let mut moves = Vec::new(alloc);
+    for p in 0..k + 1 {
+        let own = moves_from(alloc, worths, enough, k, p)?;
+        moves.extend_from_slice(own.as_slice())?;
+    }
+    Ok(moves)
+}
+
+fn conversions(alloc: Global, k: u16) -> Result<Vec<Move>, NoMemory>
+    requires { k ≤ PLACE_LIMIT }
+    ensures { IfOk result (λ moves. moves.items ≡ map (conversion_move k) (range_with_len 0 (k + 1))) }
+{
+    let moves = (0..k + 1).map(|q| full_move(k, k + 1, q)).collect(alloc)?;
+    Ok(moves)
+}
+
+/// First those of two that are not full, then those of a full one.
+pub(crate) fn moves(
+    alloc: Global,
+    worths: &[u64],
+    enough: u64,
+    k: u16,
+) -> Result<Vec<Move>, NoMemory>
+    requires { AreWorths worths.now k }
+    ensures { IfOk result (λ moves. moves.items ≡ prefix_moves worths.now enough k) }
+{
+    let mut moves = pairs(alloc, worths, enough, k)?;
+    let conversions = conversions(alloc, k)?;
+    moves.extend_from_slice(conversions.as_slice())?;
+    Ok(moves)
+}

@@ -1,0 +1,67 @@
+//! The leaf with its proof.
+
+ghost use Rattle.std.specs.Prelude.{◌≡◌, length, IfOk};
+ghost use Rattle.comp_trees.specs.BuiltLeaf.{IsBuilt};
+ghost use Rattle.comp_flock.specs.FlockProof.{offset_pred_of, offset_steps};
+ghost use Rattle.comp_prefix.specs.PrefixLeaf.{IsPrefix, AreWorths, bound_worths, last_place, prefix_leaf_of};
+ghost use Rattle.comp_prefix.specs.PrefixProof.{prefix_part};
+
+use crate::leaf::prefix_leaf;
+use crate::trees::tree;
+use crate::worths::worths;
+use cert_base::LeafProof;
+use comp_flock::{POWER_LIMIT, counting_layers, enough_for, offset_pred, says_enough};
+use pop_io::NoMemory;
+use pop_net::Leaf;
+use std::alloc::Global;
+
+fn leaf_proof(
+    alloc: Global,
+    leaf: &Leaf,
+    coefs: &[i64],
+    bound: i64,
+    top: u32,
+    worths: &[u64],
+    k: u16,
+) -> Result<LeafProof, NoMemory>
+    requires atom { IsPrefix coefs.now bound top }
+    requires worths { worths.now ≡ bound_worths bound top }
+    requires last { k ≡ last_place bound top }
+    requires are { AreWorths worths.now k }
+    requires leaf { leaf.now ≡ prefix_leaf_of coefs.now bound top }
+    ensures { IfOk result (λ part. part ≡ prefix_part coefs.now bound top) }
+{
+    let pred = offset_pred(alloc, coefs, bound, POWER_LIMIT)?;
+    let layers = counting_layers(alloc, leaf.move_count(), k)?;
+    let enough = enough_for(bound);
+    let says = says_enough(bound);
+    let on_true = tree(alloc, says, leaf, worths, enough, k, top as u16)?;
+    let on_false = tree(alloc, !says, leaf, worths, enough, k, top as u16)?;
+    Ok(LeafProof {
+        pred,
+        layers,
+        on_true,
+        on_false,
+    })
+}
+
+/// The built leaf of the atom `Less` with these numbers, which says that a sum is at least c, or denies it, where 2^top
+/// is the greatest power of two up to c; and a valid proof for it. The leaf has no helpers, and no two moves of it take
+/// the same states.
+pub fn prefix_flock(
+    alloc: Global,
+    coefs: &[i64],
+    bound: i64,
+    top: u32,
+) -> Result<(Leaf, LeafProof), NoMemory>
+    requires { IsPrefix coefs.now bound top }
+    ensures { IfOk result (λ both. IsBuilt (prefix_leaf_of coefs.now bound top) (offset_pred_of coefs.now bound)
+        (offset_steps (last_place bound top)) both.0 both.1) }
+{
+    let worths = worths(alloc, enough_for(bound), top)?;
+    let list = worths.as_slice();
+    let k = (list.len() - 2) as u16;
+    let leaf = prefix_leaf(alloc, coefs, bound, top, list, k)?;
+    let proof = leaf_proof(alloc, &leaf, coefs, bound, top, list, k)?;
+    Ok((leaf, proof))
+}

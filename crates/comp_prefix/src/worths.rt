@@ -1,0 +1,73 @@
+//! What the states are worth.
+
+ghost use Rattle.std.specs.Prelude.{◌≡◌, ◌≤◌, ◌+◌, ◌-◌, ◌^◌, ◌%◌, ◌++◌, ◌∷◌, [], map, if◌then◌else◌, IfOk, OnOk};
+ghost use Rattle.std.specs.List.{range_with_len};
+ghost use Rattle.comp_powers_leaf.specs.PowersLeaf.{has_bit};
+ghost use Rattle.comp_flock.specs.declared.limits.TheConstants.{POWER_LIMIT};
+ghost use Rattle.comp_prefix.specs.PrefixLeaf.{prefixes, worths as worths_of, worth_in as worth_of, AreWorths};
+
+use comp_powers_leaf::{is_set, two_to};
+use pop_io::NoMemory;
+use std::alloc::Global;
+
+/// What a state is worth.
+pub(crate) fn worth_in(worths: &[u64], k: u16, q: u16) -> u64
+    requires worths { AreWorths worths.now k }
+    requires state { q ≤ k + 1 }
+    ensures value { result ≡ worth_of worths.now q }
+    ensures small { result ≤ 2 ^ POWER_LIMIT }
+{
+    worths[usize::from(q)]
+}
+
+/// c without its last i bits.
+fn front(enough: u64, i: u32) -> u64
+    requires { i ≤ POWER_LIMIT }
+    ensures { result ≡ enough - enough % 2 ^ i }
+{
+    enough - enough % two_to(i)
+}
+
+fn push_powers(worths: &mut Vec<u64>, top: u32) -> Result<(), NoMemory>
+    requires { top ≤ POWER_LIMIT }
+    ensures { OnOk result (worths.new.items ≡ worths.old.items ++ map (λ i. 2 ^ i) (range_with_len 0 top)) }
+{
+    for i in 0..top {
+        worths.push(two_to(i))?;
+    }
+    Ok(())
+}
+
+/// One prefix, if the bit is set.
+fn push_prefix(worths: &mut Vec<u64>, enough: u64, i: u32) -> Result<(), NoMemory>
+    requires { i ≤ POWER_LIMIT }
+    ensures { OnOk result (worths.new.items
+        ≡ worths.old.items ++ (if has_bit enough i then ((enough - enough % 2 ^ i) ∷ []) else [])) }
+{
+    if is_set(enough, i) {
+        worths.push(front(enough, i))?;
+    }
+    Ok(())
+}
+
+/// The prefixes that have more than the bits from `count` on, the least first.
+fn push_prefixes(worths: &mut Vec<u64>, enough: u64, count: u32) -> Result<(), NoMemory>
+    requires { count ≤ POWER_LIMIT + 1 }
+    ensures { OnOk result (worths.new.items ≡ worths.old.items ++ prefixes enough count) }
+{
+    for j in 0..count {
+        push_prefix(worths, enough, count - 1 - j)?;
+    }
+    Ok(())
+}
+
+/// What all states are worth, the least first.
+pub(crate) fn worths(alloc: Global, enough: u64, top: u32) -> Result<Vec<u64>, NoMemory>
+    requires { top ≤ POWER_LIMIT }
+    ensures { IfOk result (λ worths. worths.items ≡ worths_of enough top) }
+{
+    let mut worths = Vec::from_slice(alloc, &[0u64])?;
+    push_powers(&mut worths, top)?;
+    push_prefixes(&mut worths, enough, top + 1)?;
+    Ok(worths)
+}
