@@ -1,27 +1,25 @@
 -- The node where there are too few agents without 2^k closes.
-use Rattle.std.proofs.Common.{◌≡◌, ◌≢◌, ◌⊎◌, ◌∙◌, inl, inr, subst, ℕ, zero, suc, ◌+◌, ◌^◌, ◌<◌, ◌≤◌, Bool, true, false, ◌&&◌, ◌||◌, List, [], ◌∷◌, ◌++◌, length, map, get_or, refl, ap, sym, zero-add, arith}
-use Rattle.std.specs.Prelude.{ℤ, pos, negsuc, neg_ℤ, ◌+ℤ◌, ◌-ℤ◌, ◌*ℤ◌, ◌≤ℤ◌, ◌==◌, not, All, int_le, nat_abs, if◌then◌else◌}
+use Rattle.std.proofs.Common.{◌≡◌, ◌≢◌, ◌∙◌, inl, inr, subst, ℕ, zero, suc, ◌+◌, ◌^◌, ◌<◌, ◌≤◌, Bool, true, false, ◌&&◌, ◌||◌, List, [], ◌∷◌, length, map, get_or, refl, ap, sym, zero-add, arith}
+use Rattle.std.specs.Prelude.{ℤ, pos, neg_ℤ, ◌+ℤ◌, ◌-ℤ◌, ◌*ℤ◌, ◌≤ℤ◌, ◌==◌, All, int_le, nat_abs, if◌then◌else◌}
 use Rattle.std.specs.List.{range_with_len}
 use Rattle.std.specs.Ordering.{int_eq}
 use Rattle.std.proofs.lemmas.Int.{ints}
 use Rattle.std.proofs.Math.IntN.{*ℤ-zero, zero-*ℤ, *ℤ_comm}
-use Rattle.std.proofs.lemmas.Bool.{cases_lt, eq-eqb, ne_eqb}
-use Rattle.std.proofs.lemmas.List.{length-map, append-nil, get_or-map}
+use Rattle.std.proofs.lemmas.Bool.{eq-eqb, ne_eqb}
+use Rattle.std.proofs.lemmas.List.{length-map, get_or-map}
 use Rattle.std.proofs.lemmas.List.Elements.{All-get_or, All-from_get_or}
 use Rattle.std.proofs.Math.Bool.{or-true}
 use Rattle.pop_net.specs.LeafModel.{LeafModel}
 use Rattle.pres_ast.specs.PredModel.{PredModel}
 use Rattle.cert_base.specs.declared.fact.Fact.{Fact}
-use Rattle.cert_base.specs.Rows.{terms_from, zeros}
+use Rattle.cert_base.specs.Rows.{terms_from}
 use Rattle.cert_base.specs.ClosingTests.{closes_by_sum, may_add}
-use Rattle.cert_base.specs.FactsAndCases.{indicator, differs, states_of, absent_fact, occurs_fact, not_twice}
+use Rattle.cert_base.specs.FactsAndCases.{indicator, absent_fact, not_twice}
 use Rattle.cert_base.specs.WeightedSums.{sum_of_facts, coefficient, constant_of, may_weigh, total}
-use Rattle.cert_base.proofs.WeightedSums.{weighted_sum-append, may_weigh-append, none_weighted}
-use Rattle.cert_base.proofs.FlowSums.{weighted_sum-map, total-same, total-none, total-neg, mul-neg, one-times}
-use Rattle.comp_trees.proofs.LeaderEnds.{absent-at, is_wrong, may_weigh-eqs}
-use Rattle.comp_trees.proofs.TrapNodes.{range-constant}
+use Rattle.cert_base.proofs.FlowSums.{weighted_sum-map, total-same, total-neg, mul-neg, one-times}
+use Rattle.comp_trees.proofs.LeaderEnds.{absent-at, is_wrong}
 use Rattle.comp_flock.specs.FlockLeaf.{says_enough, enough_for, size_in, flock_state_name, flock_start, flock_moves, flock_leaf_with}
-use Rattle.comp_flock.specs.FlockProof.{full_size, greatest_size, few_mix, converted_mix, offset_pred_of}
+use Rattle.comp_flock.specs.FlockProof.{full_size, greatest_size, few_mix, offset_pred_of}
 use Rattle.comp_flock.proofs.Powers.{size-power, size-at, size-le, sizes-total, zero_le}
 use Rattle.comp_flock.proofs.MoveLists.{all_moves}
 use Rattle.comp_flock.proofs.Formed.{states-long}

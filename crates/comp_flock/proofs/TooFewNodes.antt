@@ -1,13 +1,12 @@
 -- The node of the first 2^k closes, and how many moves take a 2^k.
-use Rattle.std.proofs.Common.{◌≡◌, ◌≢◌, ◌⊎◌, ◌∙◌, inl, inr, subst, ℕ, ◌+◌, ◌^◌, ◌<◌, ◌≤◌, Bool, true, false, ◌&&◌, ◌||◌, List, [], ◌∷◌, ◌++◌, length, map, get_or, refl, ap, sym, arith}
-use Rattle.std.specs.Prelude.{ℤ, pos, negsuc, neg_ℤ, ◌+ℤ◌, ◌-ℤ◌, ◌*ℤ◌, ◌≤ℤ◌, if◌then◌else◌, ◌==◌, not, All, nat_abs}
+use Rattle.std.proofs.Common.{◌≡◌, ◌≢◌, ◌⊎◌, ◌∙◌, inl, inr, subst, ℕ, ◌+◌, ◌^◌, ◌<◌, ◌≤◌, Bool, true, false, ◌&&◌, ◌||◌, List, [], ◌∷◌, length, map, get_or, refl, ap, arith}
+use Rattle.std.specs.Prelude.{ℤ, pos, neg_ℤ, ◌+ℤ◌, ◌-ℤ◌, ◌*ℤ◌, ◌≤ℤ◌, if◌then◌else◌, ◌==◌, not, All, nat_abs}
 use Rattle.std.specs.List.{range_with_len}
 use Rattle.std.specs.Ordering.{int_eq}
 use Rattle.std.proofs.lemmas.Int.{ints}
 use Rattle.std.proofs.Math.IntN.{*ℤ-zero, zero-*ℤ}
 use Rattle.std.proofs.lemmas.Bool.{cases_lt, eq-eqb, ne_eqb}
-use Rattle.std.proofs.lemmas.Bool.Decides.{eqb_tells}
-use Rattle.std.proofs.lemmas.List.{length-map, length-append, get_or-map, get_or_past, length-replicate}
+use Rattle.std.proofs.lemmas.List.{length-map}
 use Rattle.std.proofs.lemmas.List.Elements.{All-get_or, All-from_get_or}
 use Rattle.std.proofs.lemmas.List.FromFn.{length-range_with_len, length-map-range_with_len}
 use Rattle.std.proofs.Math.Bool.{and-false}
@@ -15,17 +14,16 @@ use Rattle.pop_net.specs.declared.leaf.Move.{Move}
 use Rattle.pop_net.specs.LeafModel.{LeafModel}
 use Rattle.pres_ast.specs.PredModel.{PredModel}
 use Rattle.cert_base.specs.declared.fact.Fact.{Fact}
-use Rattle.cert_base.specs.declared.fact.Fact.TheVariants.{Ge, Eq}
-use Rattle.cert_base.specs.Rows.{terms_from, zeros, input_row, single_row, move_variable}
+use Rattle.cert_base.specs.declared.fact.Fact.TheVariants.{Eq}
+use Rattle.cert_base.specs.Rows.{terms_from, single_row, move_variable}
 use Rattle.cert_base.specs.ClosingTests.{closes_by_sum, may_add}
-use Rattle.cert_base.specs.FactsAndCases.{indicator, differs, states_of, is_in, helpers_among, takes_from, puts_into, places_from, some_taken_fact, no_moves, count_row}
-use Rattle.cert_base.specs.WeightedSums.{sum_of_facts, coefficient, constant_of, may_weigh, total}
-use Rattle.cert_base.proofs.WeightedSums.{weighted_sum-append, weighted_sum-zeros, may_weigh-append, may_weigh-zeros}
-use Rattle.cert_base.proofs.FlowSums.{coefficient-dense, total-none, times-one, mul-neg, one-times}
+use Rattle.cert_base.specs.FactsAndCases.{indicator, is_in, takes_from, puts_into, places_from, some_taken_fact, no_moves}
+use Rattle.cert_base.specs.WeightedSums.{sum_of_facts, coefficient, constant_of, may_weigh}
+use Rattle.cert_base.proofs.FlowSums.{times-one, mul-neg, one-times}
 use Rattle.comp_trees.proofs.LeaderEnds.{is_wrong}
-use Rattle.comp_trees.proofs.TrapNodes.{range-constant, states-state, states-input, states-past, places-all}
+use Rattle.comp_trees.proofs.TrapNodes.{places-all}
 use Rattle.comp_flock.specs.FlockLeaf.{says_enough, enough_for, size_in, flock_state_name, flock_start, doubling_move, conversion_move, flock_moves, flock_leaf_with}
-use Rattle.comp_flock.specs.FlockProof.{lesser_size, first_mix, start_mix, never_mix, offset_pred_of}
+use Rattle.comp_flock.specs.FlockProof.{lesser_size, first_mix, offset_pred_of}
 use Rattle.comp_flock.proofs.Powers.{size-power, size-at, zero_le}
 use Rattle.comp_flock.proofs.MoveLists.{all_moves, all_doublings, all_conversions}
 use Rattle.comp_flock.proofs.Formed.{states-long}
@@ -35,7 +33,7 @@ use Rattle.comp_trees.proofs.TakenMoves.{taken-before, taken-move, taken-past}
 use Rattle.comp_powers_leaf.proofs.Bits.{double}
 use Rattle.comp_flock.proofs.OwnFacts.{places-none}
 use Rattle.comp_flock.proofs.Opened.{opened_row, opened_constant, too-few-constant}
-use Rattle.comp_flock.proofs.Starts.{IsStart, start-at, too-few-row}
+use Rattle.comp_flock.proofs.Starts.{IsStart, start-at}
 use Rattle.comp_flock.proofs.Offsets.{total-where, IsFilled}
 use Rattle.comp_flock.proofs.FullNodes.{full, in-yes, in-no, or_yes, IsCounting, row-at, start-of}
 use Rattle.comp_flock.proofs.EnoughNodes.{is_plain, is-counting}

@@ -98,7 +98,12 @@ fn never_node(alloc: Global, power: u16) -> Result<Node, NoMemory>
 
 /// The tree where there are too few, by the multipliers of the first full agent: it was put together, or was there at the
 /// start, or never occurred.
-pub fn full_tree(alloc: Global, enough: u64, power: u16, first: Vec<i64>) -> Result<List<Node>, NoMemory>
+pub fn full_tree(
+    alloc: Global,
+    enough: u64,
+    power: u16,
+    first: Vec<i64>,
+) -> Result<List<Node>, NoMemory>
     requires enough { enough ≤ 2 ^ POWER_LIMIT }
     requires power { power ≤ PLACE_LIMIT }
     requires first { length first.items ≤ MULTIPLIER_LIMIT }
