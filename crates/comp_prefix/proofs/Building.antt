@@ -1,5 +1,5 @@
 -- The lists as the code puts them together.
-use Rattle.std.proofs.Common.{◌≡◌, ◌∙◌, subst, ℕ, suc, ◌+◌, ◌-◌, ◌^◌, ◌%◌, ◌<◌, ◌≤◌, Bool, true, false, List, [], ◌∷◌, ◌++◌, length, map, append_assoc, ap, sym, zero-add, arith}
+use Rattle.std.proofs.Common.{◌≡◌, ◌∙◌, subst, ℕ, zero, suc, ◌+◌, ◌-◌, ◌^◌, ◌%◌, ◌<◌, ◌≤◌, Bool, true, false, List, [], ◌∷◌, ◌++◌, length, map, append_assoc, ap, sym, zero-add, arith}
 use Rattle.std.specs.Prelude.{ℤ, pos, neg_ℤ, ◌&&◌, ◌==◌, not, AllPairs, if◌then◌else◌, reverse, slice_index_or}
 use Rattle.std.specs.List.{range_with_len}
 use Rattle.std.proofs.lemmas.List.{length-append, length-map, length-replicate}
@@ -29,7 +29,7 @@ use Rattle.cert_base.specs.declared.node.Node.TheVariants.{Present}
 use Rattle.comp_trees.proofs.TreeOfEnds.{reverse-cons, nodes-flat}
 use Rattle.comp_powers_leaf.specs.PowersLeaf.{has_bit}
 use Rattle.comp_flock.specs.declared.limits.TheConstants.{POWER_LIMIT}
-use Rattle.comp_prefix.specs.PrefixLeaf.{prefixes, bound_worths, last_place, prefix_leaf_of, AreWorths, IsPrefix}
+use Rattle.comp_prefix.specs.PrefixLeaf.{prefixes, worths, bound_worths, last_place, prefix_leaf_of, AreWorths, IsPrefix}
 use Rattle.comp_prefix.proofs.WorthLaws.{no-more}
 use Rattle.comp_prefix.proofs.Formed.{bound-chain, places-few, states-long}
 
@@ -142,3 +142,24 @@ built-as coefs bound top leaf part is el ep =
       within = subst (IsLeafProofWithin (length coefs)) (sym ep) right.within;
       single = subst (λ (l : LeafModel). AllPairs Differ l.moves) (sym el) right.single;
     }
+
+-- ---- how many states there are
+
+pub prefixes-counted : (c i : ℕ) → length (prefixes c (i + 1)) ≡ length (prefixes c i) + (if has_bit c i then 1 else 0)
+prefixes-counted c i = ap (λ j. length (prefixes c j)) (let e : i + 1 ≡ suc i = omega arith in e) ∙ go (has_bit c i)
+  where
+    go : (b : Bool) → length (if b then ((c - c % 2 ^ i) ∷ prefixes c i) else prefixes c i) ≡ length (prefixes c i) + (if b then 1 else 0)
+    go true = omega arith
+    go false = omega arith
+
+pub prefixes-few : (c i : ℕ) → length (prefixes c i) ≤ i
+prefixes-few c zero = omega arith
+prefixes-few c (suc i) = go (has_bit c i) (prefixes-few c i)
+  where
+    go : (b : Bool) → length (prefixes c i) ≤ i → length (if b then ((c - c % 2 ^ i) ∷ prefixes c i) else prefixes c i) ≤ suc i
+    go true few = omega (arith, few)
+    go false few = omega (arith, few)
+
+pub worths-counted : (c top : ℕ) → length (worths c top) ≡ top + 1 + length (prefixes c (top + 1))
+worths-counted c top =
+    omega (arith, length-append (0 ∷ map (λ i. 2 ^ i) (range_with_len 0 top)) (prefixes c (top + 1)), length-map-range_with_len (λ i. 2 ^ i) 0 top)

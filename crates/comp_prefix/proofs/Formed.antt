@@ -71,6 +71,13 @@ module _ (ws : List ℕ) (c top k : ℕ) (is : IsChain ws c top k) where
 
 -- ---- the worths of an atom's states
 
+pub place-few : (c top : ℕ) → 2 ^ top ≤ c → c ≤ 2 ^ POWER_LIMIT → top ≤ POWER_LIMIT
+place-few c top least most = go (cases_lt POWER_LIMIT top)
+  where
+    go : (POWER_LIMIT < top) ⊎ (top ≤ POWER_LIMIT) → top ≤ POWER_LIMIT
+    go (inl l) = let p = power-le (POWER_LIMIT + 1) top (omega (arith, l)) in absurd (omega (arith, p, least, most))
+    go (inr l) = l
+
 module _ (coefs : List ℤ) (bound : ℤ) (top : ℕ) (is : IsPrefix coefs bound top) where
   pub bound-chain : IsChain (bound_worths bound top) (enough_for bound) top (last_place bound top)
   bound-chain =
@@ -79,11 +86,7 @@ module _ (coefs : List ℤ) (bound : ℤ) (top : ℕ) (is : IsPrefix coefs bound
       subst (IsChain (bound_worths bound top) (enough_for bound) top) (omega (arith, long)) chain
 
   pub top-few : top ≤ POWER_LIMIT
-  top-few = go (cases_lt POWER_LIMIT top)
-    where
-      go : (POWER_LIMIT < top) ⊎ (top ≤ POWER_LIMIT) → top ≤ POWER_LIMIT
-      go (inl l) = let p = power-le (POWER_LIMIT + 1) top (omega (arith, l)) in let least = is.least in let most = is.within in absurd (omega (arith, p, least, most))
-      go (inr l) = l
+  top-few = place-few (enough_for bound) top is.least is.within
 
   pub places-few : last_place bound top ≤ 78
   places-few = let few = bound-chain.few in let low = top-few in omega (arith, few, low)

@@ -9,6 +9,14 @@ use Rattle.comp_flock.specs.declared.limits.TheConstants.{POWER_LIMIT}
 use Rattle.comp_flock.specs.FlockLeaf.{is_counted, says_enough, enough_for}
 use Rattle.comp_flock.proofs.PowerFound.{find-first, find-any, find-in}
 use Rattle.comp_prefix.specs.PrefixLeaf.{IsPrefix, prefix_top}
+use Rattle.comp_prefix.proofs.Formed.{place-few}
+
+-- what is known of it
+pub record IsTop (coefs : List ℤ) (bound : ℤ) (top : ℕ) : Type 0 where
+  pub are : list_all (is_counted (says_enough bound) (enough_for bound)) coefs ≡ true
+  pub least : 2 ^ top ≤ enough_for bound
+  pub most : enough_for bound < 2 ^ (top + 1)
+  pub within : enough_for bound ≤ 2 ^ POWER_LIMIT
 
 module _ (coefs : List ℤ) (bound : ℤ) where
   abbrev c : ℕ
@@ -36,21 +44,29 @@ module _ (coefs : List ℤ) (bound : ℤ) where
       go (pos (suc n)) = omega arith
       go (negsuc n) = omega arith
 
-  pub top-found : (top : ℕ) → IsAtomSum coefs → prefix_top coefs bound ≡ Some top → IsPrefix coefs bound top
-  top-found top sum e = go (nat_le c (2 ^ POWER_LIMIT) && counted) refl e
+  pub top-is : (top : ℕ) → prefix_top coefs bound ≡ Some top → IsTop coefs bound top
+  top-is top e = go (nat_le c (2 ^ POWER_LIMIT) && counted) refl e
     where
-      go : (b : Bool) → nat_le c (2 ^ POWER_LIMIT) && counted ≡ b → (if b then find test (range_with_len 0 (POWER_LIMIT + 1)) else None) ≡ Some top → IsPrefix coefs bound top
+      go : (b : Bool) → nat_le c (2 ^ POWER_LIMIT) && counted ≡ b → (if b then find test (range_with_len 0 (POWER_LIMIT + 1)) else None) ≡ Some top → IsTop coefs bound top
       go false f h = absurd (let g : None ≡ Some top = h in cc)
       go true f h =
           let parts = and_parts (nat_le c (2 ^ POWER_LIMIT)) counted f in
           let found = find-in test 0 (POWER_LIMIT + 1) top h in
           record {
-            sum = sum;
             are = parts.1;
             least = least top enough-some (λ j l. find-first test 0 (POWER_LIMIT + 1) top h j (omega arith) l);
             most = ltb-true c (2 ^ (top + 1)) found;
             within = leb-true c (2 ^ POWER_LIMIT) parts.0;
           }
+
+  pub top-prefix : (top : ℕ) → IsAtomSum coefs → IsTop coefs bound top → IsPrefix coefs bound top
+  top-prefix top sum is = record { sum = sum; are = is.are; least = is.least; most = is.most; within = is.within }
+
+  pub top-found : (top : ℕ) → IsAtomSum coefs → prefix_top coefs bound ≡ Some top → IsPrefix coefs bound top
+  top-found top sum e = top-prefix top sum (top-is top e)
+
+  pub top-low : (top : ℕ) → IsTop coefs bound top → top ≤ POWER_LIMIT
+  top-low top is = place-few c top is.least is.within
 
   pub top-every : counted ≡ true → c ≤ 2 ^ POWER_LIMIT → (top : ℕ) × (prefix_top coefs bound ≡ Some top)
   top-every are l =

@@ -25,3 +25,4 @@ mod worths;
 pub use law::prefixes_are_right;
 pub use top::prefix_top;
 pub use whole::prefix_flock;
+pub use worths::prefix_states;

@@ -1,11 +1,12 @@
 //! What the states are worth.
 
-ghost use Rattle.std.specs.Prelude.{◌≡◌, ◌≤◌, ◌+◌, ◌-◌, ◌^◌, ◌%◌, ◌++◌, ◌∷◌, [], map, if◌then◌else◌, IfOk, OnOk};
+ghost use Rattle.std.specs.Prelude.{◌≡◌, ◌≤◌, ◌+◌, ◌-◌, ◌^◌, ◌%◌, ◌++◌, ◌∷◌, [], length, map, if◌then◌else◌, IfOk, OnOk};
 ghost use Rattle.std.specs.List.{range_with_len};
 ghost use Rattle.comp_powers_leaf.specs.PowersLeaf.{has_bit};
 ghost use Rattle.comp_flock.specs.declared.limits.TheConstants.{POWER_LIMIT};
-ghost use Rattle.comp_prefix.specs.PrefixLeaf.{prefixes, worths as worths_of, worth_in as worth_of, AreWorths};
+ghost use Rattle.comp_prefix.specs.PrefixLeaf.{prefixes, worths as worths_of, worth_in as worth_of, bound_worths, AreWorths};
 
+use comp_flock::enough_for;
 use comp_powers_leaf::{is_set, two_to};
 use pop_io::NoMemory;
 use std::alloc::Global;
@@ -70,4 +71,32 @@ pub(crate) fn worths(alloc: Global, enough: u64, top: u32) -> Result<Vec<u64>, N
     push_powers(&mut worths, top)?;
     push_prefixes(&mut worths, enough, top + 1)?;
     Ok(worths)
+}
+
+fn one_if(set: bool) -> u32
+    ensures value { result ≡ (if set then 1 else 0) }
+    ensures small { result ≤ 1 }
+{
+    if set { 1 } else { 0 }
+}
+
+/// How many prefixes have more than the bits from `count` on.
+fn count_prefixes(enough: u64, count: u32) -> u32
+    requires { count ≤ POWER_LIMIT + 1 }
+    ensures ones { result ≡ length (prefixes enough count) }
+    ensures few { result ≤ count }
+{
+    let mut ones = 0;
+    for i in 0..count {
+        ones += one_if(is_set(enough, i));
+    }
+    ones
+}
+
+/// How many states the leaf has. Allocates nothing.
+pub fn prefix_states(bound: i64, top: u32) -> u32
+    requires { top ≤ POWER_LIMIT }
+    ensures { result ≡ length (bound_worths bound top) }
+{
+    top + 1 + count_prefixes(enough_for(bound), top + 1)
 }
