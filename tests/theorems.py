@@ -87,7 +87,7 @@ PROMISES = (
     ("a value is the file of this proof or bundle, or this is the first broken rule", "read_proof, read_bundle"),
     (
         "a leaf computes a threshold, a remainder, a flock, and its proof is valid",
-        "threshold, remainder, flock, offset_flock, powers",
+        "threshold, remainder, flock, offset_flock, prefix_flock, powers",
     ),
     (
         "a proof is valid, or this is its first part that fails; a checked net computes its predicate",

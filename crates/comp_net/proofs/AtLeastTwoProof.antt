@@ -13,9 +13,9 @@ use Rattle.comp_flock.specs.FlockProof.{flock_pred_of, flock_part}
 use Rattle.comp_flock.proofs.Small.{flock_is_pred}
 use Rattle.comp_flock.proofs.Steps.{steps_are}
 use Rattle.comp_flock.proofs.Valid.{flock-valid, flock-within}
-use Rattle.comp_net.specs.declared.choice.LeafChoice.TheVariants.{Flocks}
+use Rattle.comp_net.specs.declared.choice.NetLeaves.TheVariants.{Flocks}
 use Rattle.comp_net.specs.Building.{IsAtomProof}
-use Rattle.comp_net.specs.BuiltNet.{net_with}
+use Rattle.comp_net.specs.BuiltNet.{net_of}
 use Rattle.comp_net.specs.AtLeastTwo.{two_leaf, two_net, at_least_two, AtLeastTwoComputes}
 use Rattle.comp_net.specs.declared.choice.LessLeaf.TheVariants.{Flock}
 use Rattle.comp_flock.proofs.SingleMoves.{moves-single}
@@ -52,7 +52,7 @@ state_names =
     ∙ ap (λ name. decimal 0 ∷ name ∷ (50 ∷ []) ∷ []) (sym (decimal_digit 1 (omega arith)))
     ∙ ap (λ name. decimal 0 ∷ decimal 1 ∷ name ∷ []) (sym (decimal_digit 2 (omega arith)))
 
-is_built : two_net ≡ net_with Flocks variables at_least_two
+is_built : two_net ≡ net_of Flocks variables at_least_two
 is_built = ap with_states state_names
 
 -- ---- the proof
@@ -72,7 +72,7 @@ names_formed = (
   AllPairs-cons ◌≢◌ (120 ∷ []) [] (All-nil (λ name. (120 ∷ []) ≢ name)) (λ i j d l m. absurd (omega (arith, m))),
 )
 
-built_computes : Computes (net_with Flocks variables at_least_two) at_least_two 2
+built_computes : Computes (net_of Flocks variables at_least_two) at_least_two 2
 built_computes =
     (net-right Flocks variables at_least_two (flock_part coefs 1 ∷ []) (atom_proof, tt) names_formed
     (flock_is_pred coefs 1 is_flock) refl).computes

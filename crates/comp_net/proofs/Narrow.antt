@@ -11,13 +11,13 @@ use Rattle.pop_net.proofs.LeafFaults.{Decides-le}
 use Rattle.pres_ast.specs.PredTree.{PredTree, LessThan, Congruent, Negation, Conjunction, Disjunction}
 use Rattle.pres_ast.specs.PredModel.{AreCoefs, HasAtoms, IsAtomSum}
 use Rattle.comp_net.specs.declared.fault.CompileFault.TheVariants as fault
-use Rattle.comp_net.specs.declared.choice.LeafChoice.{LeafChoice}
+use Rattle.comp_net.specs.declared.choice.NetLeaves.{NetLeaves}
 use Rattle.comp_net.specs.Atoms.{atoms, atom_size, has_no_leaf, size_limit, narrow_limit, AreShort, AreBuildable}
-use Rattle.comp_net.specs.CompileFaults.{sizes_of, missing_of, first_missing, first_size_over, first_wide_size, fault_of_sizes, fault_with}
+use Rattle.comp_net.specs.CompileFaults.{sizes_of, missing_of, first_missing, first_size_over, first_wide_size, fault_of_sizes, fault_in}
 use Rattle.list_laws.proofs.Lists.{all_front, all_back}
 
 -- an atom with a leaf that isn't too large
-abbrev pub Fits : LeafChoice → PredTree → Type 0
+abbrev pub Fits : NetLeaves → PredTree → Type 0
 Fits choice a = (has_no_leaf choice a ≡ false) × (atom_size choice a ≤ size_limit choice)
 
 -- every atom has a leaf
@@ -40,19 +40,19 @@ none_over limit ss = (λ e. all.0 (same ∙ e), λ h. sym same ∙ all.1 h)
     same : position (λ s. not (not (nat_lt limit s))) ss ≡ position (λ s. nat_lt limit s) ss
     same = ap (λ p. position p ss) (λ i s. not-not (nat_lt limit s) i)
 
-none_wide : (choice : LeafChoice) (ss : List ℕ) → NoneIff (first_wide_size choice ss) (WIDE_LEAF_LIMIT < length ss → All (λ s. s ≤ narrow_limit choice) ss)
+none_wide : (choice : NetLeaves) (ss : List ℕ) → NoneIff (first_wide_size choice ss) (WIDE_LEAF_LIMIT < length ss → All (λ s. s ≤ narrow_limit choice) ss)
 none_wide choice ss = go (nat_lt WIDE_LEAF_LIMIT (length ss)) refl
   where
     go : (many : Bool) → nat_lt WIDE_LEAF_LIMIT (length ss) ≡ many → NoneIff (if many then first_size_over (narrow_limit choice) ss else None) (WIDE_LEAF_LIMIT < length ss → All (λ s. s ≤ narrow_limit choice) ss)
     go true e = (λ none many. (none_over (narrow_limit choice) ss).0 none, λ h. (none_over (narrow_limit choice) ss).1 (h (ltb-true WIDE_LEAF_LIMIT (length ss) e)))
     go false e = (λ _ many. absurd (let few = ltb-false WIDE_LEAF_LIMIT (length ss) e in omega (arith, few, many)), λ _. refl)
 
-abbrev KeepsLimits : LeafChoice → List Bool → List ℕ → Type 0
+abbrev KeepsLimits : NetLeaves → List Bool → List ℕ → Type 0
 KeepsLimits choice ms ss =
     (length ss ≤ LEAF_LIMIT)
     × (All (λ m. m ≡ false) ms × (All (λ s. s ≤ size_limit choice) ss × ((WIDE_LEAF_LIMIT < length ss → All (λ s. s ≤ narrow_limit choice) ss) × Unit {0})))
 
-limits_of : (choice : LeafChoice) (ms : List Bool) (ss : List ℕ) → NoneIff (fault_of_sizes choice ms ss) (KeepsLimits choice ms ss)
+limits_of : (choice : NetLeaves) (ms : List Bool) (ss : List ℕ) → NoneIff (fault_of_sizes choice ms ss) (KeepsLimits choice ms ss)
 limits_of choice ms ss =
     first_of-cons _ _ (none_unless _ _ (Decides-le (length ss) LEAF_LIMIT))
     (first_of-cons _ _ (none_map fault.NoRange _ (none_missing ms))
@@ -65,12 +65,12 @@ of_atoms P measure xs h k d l =
     subst P (get_or-map measure xs k d (measure d) l) (h k (measure d) (omega (arith, length-map xs measure)))
 
 -- what is known of a tree with which nothing is wrong
-pub record KeepsSizes (choice : LeafChoice) (tree : PredTree) : Type 0 where
+pub record KeepsSizes (choice : NetLeaves) (tree : PredTree) : Type 0 where
   pub few : length (atoms tree) ≤ LEAF_LIMIT
   pub fits : All (Fits choice) (atoms tree)
   pub not_wide : WIDE_LEAF_LIMIT < length (atoms tree) → All (λ a. atom_size choice a ≤ narrow_limit choice) (atoms tree)
 
-pub keeps_sizes : (choice : LeafChoice) (tree : PredTree) → fault_with choice tree ≡ None → KeepsSizes choice tree
+pub keeps_sizes : (choice : NetLeaves) (tree : PredTree) → fault_in choice tree ≡ None → KeepsSizes choice tree
 keeps_sizes choice tree e =
     let keeps = (limits_of choice (missing_of choice tree) (sizes_of choice tree)).0 e in
     let long = length-map (atoms tree) (atom_size choice) in
@@ -85,7 +85,7 @@ keeps_sizes choice tree e =
 atom_sum : (n : ℕ) (coefs : List ℤ) → 1 ≤ n → n ≤ VARIABLE_LIMIT → AreCoefs n coefs → IsAtomSum coefs
 atom_sum n coefs some few are = let long = are.0 in record { some = omega arith; few = omega arith; small = are.1 }
 
-pub buildable : (choice : LeafChoice) (n : ℕ) (tree : PredTree) → 1 ≤ n → n ≤ VARIABLE_LIMIT → HasAtoms n tree → All (Fits choice) (atoms tree) → AreBuildable choice tree
+pub buildable : (choice : NetLeaves) (n : ℕ) (tree : PredTree) → 1 ≤ n → n ≤ VARIABLE_LIMIT → HasAtoms n tree → All (Fits choice) (atoms tree) → AreBuildable choice tree
 buildable choice n (LessThan coefs bound) some few has narrow =
     (let fits = narrow 0 (LessThan coefs bound) (omega arith) in (atom_sum n coefs some few has.0, has.1, fits.0, fits.1))
 buildable choice n (Congruent coefs m rest) some few has narrow =

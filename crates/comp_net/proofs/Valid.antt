@@ -33,22 +33,25 @@ use Rattle.comp_remainder.proofs.SingleMoves.{moves-single as remainder_single}
 use Rattle.comp_flock.specs.FlockLeaf.{enough_for, flock_start, flock_state_name, offset_helpers, offset_helper_count}
 use Rattle.comp_flock.proofs.Formed.{flock-formed, offset-formed}
 use Rattle.comp_flock.proofs.SingleMoves.{moves-single as flock_single}
+use Rattle.comp_prefix.specs.PrefixLeaf.{last_place}
+use Rattle.comp_prefix.proofs.TopFound.{top-low, top-prefix}
+use Rattle.comp_prefix.proofs.Valid.{prefix-right}
 use Rattle.comp_powers_leaf.specs.declared.role.Role.TheVariants.{Nothing}
 use Rattle.comp_powers_leaf.specs.PowersLeaf.{roles, place, start_of, coefficient_of, lacking, bit_role, helper_roles, all_helper_roles, state_name_at}
 use Rattle.comp_powers_leaf.proofs.RangeFound.{range-suffices}
 use Rattle.comp_powers_leaf.proofs.Formed.{powers-formed}
 use Rattle.comp_powers_leaf.proofs.Single.{moves-single as powers_single}
-use Rattle.comp_net.specs.declared.choice.LeafChoice.{LeafChoice}
+use Rattle.comp_net.specs.declared.choice.NetLeaves.{NetLeaves}
 use Rattle.comp_net.specs.declared.choice.LessLeaf.{LessLeaf}
-use Rattle.comp_net.specs.declared.choice.LessLeaf.TheVariants.{Threshold, Flock, Offset, Powers, NoLeaf}
+use Rattle.comp_net.specs.declared.choice.LessLeaf.TheVariants.{Threshold, Flock, Offset, Prefix, Powers, NoLeaf}
 use Rattle.comp_net.specs.Atoms.{atoms, postfix, less_leaf_for, is_none, less_helpers, most_helpers, less_size, atom_size, size_limit, narrow_limit, AreBuildable}
-use Rattle.comp_net.specs.BuiltNet.{less_leaf, leaf_of, net_with}
+use Rattle.comp_net.specs.BuiltNet.{less_leaf, leaf_of, net_of}
 use Rattle.comp_net.specs.BuiltBound.{atom_steps}
 use Rattle.comp_net.specs.Building.{AreAtomProofs}
-use Rattle.comp_net.specs.CompileFaults.{fault_with}
+use Rattle.comp_net.specs.CompileFaults.{fault_in}
 use Rattle.comp_net.proofs.Postfix.{value_at, combined-postfix, tree-again, depth-most, items-most, some_atom, names-below}
 use Rattle.comp_net.proofs.Narrow.{KeepsSizes, keeps_sizes, buildable}
-use Rattle.comp_net.proofs.Chosen.{is_succinct, IsChosen, chosen, helpers-held, helpers-none}
+use Rattle.comp_net.proofs.Chosen.{has_helpers, IsChosen, chosen, helpers-held, helpers-none}
 use Rattle.std.proofs.lemmas.Option.{same_Some}
 
 -- ---- all atoms
@@ -61,25 +64,25 @@ pub record IsBuiltLeaf (n helpers : ℕ) (is_low : Type 0) (leaf : LeafModel) : 
   pub narrow : is_low → is_wide_leaf leaf ≡ false
   pub single : AllPairs Differ leaf.moves
 
-abbrev IsBuilt : LeafChoice → ℕ → ℕ → PredTree → Type 0
+abbrev IsBuilt : NetLeaves → ℕ → ℕ → PredTree → Type 0
 IsBuilt choice helpers n atom =
     IsBuiltLeaf n helpers (atom_size choice atom ≤ narrow_limit choice) (leaf_of choice helpers atom)
 
 -- what is known of the number of helpers
-pub record IsHelped (choice : LeafChoice) (helpers : ℕ) (tree : PredTree) : Type 0 where
+pub record IsHelped (choice : NetLeaves) (helpers : ℕ) (tree : PredTree) : Type 0 where
   pub enough : most_helpers choice tree ≤ helpers
   pub few : helpers ≤ HELPER_LIMIT
-  pub none : is_succinct choice ≡ false → helpers ≡ 0
+  pub none : has_helpers choice ≡ false → helpers ≡ 0
 
 -- those of the net
-pub net_helped : (choice : LeafChoice) (tree : PredTree) → IsHelped choice (most_helpers choice tree) tree
+pub net_helped : (choice : NetLeaves) (tree : PredTree) → IsHelped choice (most_helpers choice tree) tree
 net_helped choice tree = record {
   enough = omega arith;
   few = helpers-held choice tree;
   none = helpers-none choice tree;
 }
 
-less_built : (choice : LeafChoice) (helpers : ℕ) (coefs : List ℤ) (bound : ℤ) (leaf : LessLeaf) → IsChosen choice coefs bound leaf → IsAtomSum coefs → is_none leaf ≡ false → less_size coefs bound leaf ≤ size_limit choice → less_helpers bound leaf ≤ helpers → helpers ≤ HELPER_LIMIT → (is_succinct choice ≡ false → helpers ≡ 0)
+less_built : (choice : NetLeaves) (helpers : ℕ) (coefs : List ℤ) (bound : ℤ) (leaf : LessLeaf) → IsChosen choice coefs bound leaf → IsAtomSum coefs → is_none leaf ≡ false → less_size coefs bound leaf ≤ size_limit choice → less_helpers bound leaf ≤ helpers → helpers ≤ HELPER_LIMIT → (has_helpers choice ≡ false → helpers ≡ 0)
     → IsBuiltLeaf (length coefs) helpers (less_size coefs bound leaf ≤ narrow_limit choice) (less_leaf coefs bound helpers leaf)
 less_built choice helpers coefs bound Threshold is sum some few enough most none = record {
   formed = threshold-formed coefs bound sum.some sum.few (let limit = is.1 in omega (arith, few, limit));
@@ -108,6 +111,16 @@ less_built choice helpers coefs bound (Offset k) is sum some few enough most non
       narrow = λ l. le-ltb NARROW_STATE_LIMIT _ (let high = is.high in omega (arith, length-map-range_with_len flock_state_name 0 (k + 2), high));
       single = flock_single k;
     }
+less_built choice helpers coefs bound (Prefix top) is sum some few enough most none =
+    let one = top-prefix coefs bound top sum is.1 in
+    let right = prefix-right coefs bound top one in
+    record {
+      formed = right.formed;
+      inputs = length-map coefs (flock_start (enough_for bound) (last_place bound top));
+      helped = sym (none is.0);
+      narrow = λ l. le-ltb NARROW_STATE_LIMIT _ (let states = right.few in let low = top-low coefs bound top is.1 in omega (arith, states, low));
+      single = right.single;
+    }
 less_built choice helpers coefs bound (Powers k) is sum some few enough most none =
     let spare = helpers - (k + 2) in
     let fits = range-suffices coefs bound k is.2 sum.some sum.few (let limit = is.0 in omega (arith, few, limit)) in
@@ -123,7 +136,7 @@ less_built choice helpers coefs bound (Powers k) is sum some few enough most non
     }
 less_built choice helpers coefs bound NoLeaf is sum some few enough most none = absurd (let e : true ≡ false = some in cc)
 
-pub all_built : (choice : LeafChoice) (helpers n : ℕ) (tree : PredTree) → HasAtoms n tree → AreBuildable choice tree → IsHelped choice helpers tree → All (IsBuilt choice helpers n) (atoms tree)
+pub all_built : (choice : NetLeaves) (helpers n : ℕ) (tree : PredTree) → HasAtoms n tree → AreBuildable choice tree → IsHelped choice helpers tree → All (IsBuilt choice helpers n) (atoms tree)
 all_built choice helpers n (LessThan coefs bound) has can helped =
     let long = has.0.0 in
     All-cons (IsBuilt choice helpers n) (LessThan coefs bound) []
@@ -153,31 +166,31 @@ all_built choice helpers n (Disjunction p q) has can helped =
     (all_built choice helpers n p has.0 can.0 (record { enough = omega (arith, enough); few = helped.few; none = helped.none }))
     (all_built choice helpers n q has.1 can.1 (record { enough = omega (arith, enough); few = helped.few; none = helped.none }))
 
-pub pred_buildable : (choice : LeafChoice) (n : ℕ) (tree : PredTree) → IsPred n tree → fault_with choice tree ≡ None → AreBuildable choice tree
+pub pred_buildable : (choice : NetLeaves) (n : ℕ) (tree : PredTree) → IsPred n tree → fault_in choice tree ≡ None → AreBuildable choice tree
 pred_buildable choice n tree is none = buildable choice n tree is.some_variable is.variables is.atoms (keeps_sizes choice tree none).fits
 
 -- with the helpers of the net
-abbrev IsBuiltIn : LeafChoice → PredTree → ℕ → PredTree → Type 0
+abbrev IsBuiltIn : NetLeaves → PredTree → ℕ → PredTree → Type 0
 IsBuiltIn choice tree n = IsBuilt choice (most_helpers choice tree) n
 
-pub pred_built : (choice : LeafChoice) (n : ℕ) (tree : PredTree) → IsPred n tree → fault_with choice tree ≡ None → All (IsBuiltIn choice tree n) (atoms tree)
+pub pred_built : (choice : NetLeaves) (n : ℕ) (tree : PredTree) → IsPred n tree → fault_in choice tree ≡ None → All (IsBuiltIn choice tree n) (atoms tree)
 pred_built choice n tree is none = all_built choice (most_helpers choice tree) n tree is.atoms (pred_buildable choice n tree is none) (net_helped choice tree)
 
 -- ---- the whole proof
 
-parts-long : (choice : LeafChoice) (helpers : ℕ) (xs : List PredTree) (parts : List LeafProof) → AreAtomProofs choice helpers xs parts → length parts ≡ length xs
+parts-long : (choice : NetLeaves) (helpers : ℕ) (xs : List PredTree) (parts : List LeafProof) → AreAtomProofs choice helpers xs parts → length parts ≡ length xs
 parts-long choice helpers [] [] h = refl
 parts-long choice helpers [] (part ∷ parts) h = absurd h
 parts-long choice helpers (a ∷ xs) [] h = absurd h
 parts-long choice helpers (a ∷ xs) (part ∷ parts) h = ap suc (parts-long choice helpers xs parts h.1)
 
-parts-trees : (choice : LeafChoice) (helpers : ℕ) (xs : List PredTree) (parts : List LeafProof) → AreAtomProofs choice helpers xs parts → map (λ (part : LeafProof). part.pred.tree) parts ≡ xs
+parts-trees : (choice : NetLeaves) (helpers : ℕ) (xs : List PredTree) (parts : List LeafProof) → AreAtomProofs choice helpers xs parts → map (λ (part : LeafProof). part.pred.tree) parts ≡ xs
 parts-trees choice helpers [] [] h = refl
 parts-trees choice helpers [] (part ∷ parts) h = absurd h
 parts-trees choice helpers (a ∷ xs) [] h = absurd h
 parts-trees choice helpers (a ∷ xs) (part ∷ parts) h = ap (λ t. t ∷ map (λ (part : LeafProof). part.pred.tree) parts) h.0.tree_is ∙ ap (λ ts. a ∷ ts) (parts-trees choice helpers xs parts h.1)
 
-parts-valid : (choice : LeafChoice) (helpers : ℕ) (xs : List PredTree) (parts : List LeafProof) → AreAtomProofs choice helpers xs parts → (i : ℕ) (leaf : LeafModel) (part : LeafProof) → slice_get (map (leaf_of choice helpers) xs) i ≡ Some leaf → slice_get parts i ≡ Some part → ValidLeafProof leaf part
+parts-valid : (choice : NetLeaves) (helpers : ℕ) (xs : List PredTree) (parts : List LeafProof) → AreAtomProofs choice helpers xs parts → (i : ℕ) (leaf : LeafModel) (part : LeafProof) → slice_get (map (leaf_of choice helpers) xs) i ≡ Some leaf → slice_get parts i ≡ Some part → ValidLeafProof leaf part
 parts-valid choice helpers [] [] h i leaf part e f = cc
 parts-valid choice helpers [] (p ∷ parts) h i leaf part e f = absurd h
 parts-valid choice helpers (a ∷ xs) [] h i leaf part e f = absurd h
@@ -185,14 +198,14 @@ parts-valid choice helpers (a ∷ xs) (p ∷ parts) h zero leaf part e f =
     subst (λ l. ValidLeafProof l part) (same_Some _ _ e) (subst (ValidLeafProof (leaf_of choice helpers a)) (same_Some _ _ f) h.0.valid)
 parts-valid choice helpers (a ∷ xs) (p ∷ parts) h (suc i) leaf part e f = parts-valid choice helpers xs parts h.1 i leaf part e f
 
-parts-within : (choice : LeafChoice) (helpers : ℕ) (n : ℕ) (xs : List PredTree) (parts : List LeafProof) → AreAtomProofs choice helpers xs parts → All (IsBuilt choice helpers n) xs → All (IsLeafProofWithin n) parts
+parts-within : (choice : NetLeaves) (helpers : ℕ) (n : ℕ) (xs : List PredTree) (parts : List LeafProof) → AreAtomProofs choice helpers xs parts → All (IsBuilt choice helpers n) xs → All (IsLeafProofWithin n) parts
 parts-within choice helpers n [] [] h built = All-nil (IsLeafProofWithin n)
 parts-within choice helpers n [] (part ∷ parts) h built = absurd h
 parts-within choice helpers n (a ∷ xs) [] h built = absurd h
 parts-within choice helpers n (a ∷ xs) (part ∷ parts) h built =
     All-cons (IsLeafProofWithin n) part parts (subst (λ k. IsLeafProofWithin k part) (built 0 a (omega arith)).inputs h.0.within) (parts-within choice helpers n xs parts h.1 (All-tail (IsBuilt choice helpers n) a xs built))
 
-pub proof-valid : (choice : LeafChoice) (names : List (List ℕ)) (n : ℕ) (tree : PredTree) (parts : List LeafProof) → AreAtomProofs choice (most_helpers choice tree) (atoms tree) parts → ValidProof (net_with choice names tree) (over_count n tree) (record { leaves = parts })
+pub proof-valid : (choice : NetLeaves) (names : List (List ℕ)) (n : ℕ) (tree : PredTree) (parts : List LeafProof) → AreAtomProofs choice (most_helpers choice tree) (atoms tree) parts → ValidProof (net_of choice names tree) (over_count n tree) (record { leaves = parts })
 proof-valid choice names n tree parts h = record {
   one_each = parts-long choice (most_helpers choice tree) (atoms tree) parts h ∙ sym (length-map (atoms tree) (leaf_of choice (most_helpers choice tree)));
   leaves = parts-valid choice (most_helpers choice tree) (atoms tree) parts h;
@@ -203,7 +216,7 @@ proof-valid choice names n tree parts h = record {
 }
 
 -- the proof is within the limits
-pub proof-within : (choice : LeafChoice) (names : List (List ℕ)) (n : ℕ) (tree : PredTree) (parts : List LeafProof) → AreAtomProofs choice (most_helpers choice tree) (atoms tree) parts → IsPred n tree → fault_with choice tree ≡ None → IsProofWithin n (length (net_with choice names tree).leaves) (record { leaves = parts })
+pub proof-within : (choice : NetLeaves) (names : List (List ℕ)) (n : ℕ) (tree : PredTree) (parts : List LeafProof) → AreAtomProofs choice (most_helpers choice tree) (atoms tree) parts → IsPred n tree → fault_in choice tree ≡ None → IsProofWithin n (length (net_of choice names tree).leaves) (record { leaves = parts })
 proof-within choice names n tree parts h is none = record {
   one_each = parts-long choice (most_helpers choice tree) (atoms tree) parts h ∙ sym (length-map (atoms tree) (leaf_of choice (most_helpers choice tree)));
   parts = parts-within choice (most_helpers choice tree) n (atoms tree) parts h (pred_built choice n tree is none);
@@ -222,34 +235,34 @@ atom_preds n (Disjunction p q) some few has = All-append (IsPred n) (atoms p) (a
 abbrev IsPart : ℕ → LeafProof → Type 0
 IsPart n part = IsPred n part.pred.tree
 
-part_preds : (choice : LeafChoice) (helpers : ℕ) (n : ℕ) (xs : List PredTree) (parts : List LeafProof) → AreAtomProofs choice helpers xs parts → All (IsPred n) xs → All (IsPart n) parts
+part_preds : (choice : NetLeaves) (helpers : ℕ) (n : ℕ) (xs : List PredTree) (parts : List LeafProof) → AreAtomProofs choice helpers xs parts → All (IsPred n) xs → All (IsPart n) parts
 part_preds choice helpers n [] [] h preds = All-nil (IsPart n)
 part_preds choice helpers n [] (part ∷ parts) h preds = absurd h
 part_preds choice helpers n (a ∷ xs) [] h preds = absurd h
 part_preds choice helpers n (a ∷ xs) (part ∷ parts) h preds =
     All-cons (IsPart n) part parts (subst (IsPred n) (sym h.0.tree_is) (All-head (IsPred n) a xs preds)) (part_preds choice helpers n xs parts h.1 (All-tail (IsPred n) a xs preds))
 
-pub proof-preds : (choice : LeafChoice) (n : ℕ) (tree : PredTree) (parts : List LeafProof) → AreAtomProofs choice (most_helpers choice tree) (atoms tree) parts → IsPred n tree → All (IsPart n) parts
+pub proof-preds : (choice : NetLeaves) (n : ℕ) (tree : PredTree) (parts : List LeafProof) → AreAtomProofs choice (most_helpers choice tree) (atoms tree) parts → IsPred n tree → All (IsPart n) parts
 proof-preds choice n tree parts h is = part_preds choice (most_helpers choice tree) n (atoms tree) parts h (atom_preds n tree is.some_variable is.variables is.atoms)
 
 -- no leaf has two moves that take the same states
-pub net-single : (choice : LeafChoice) (names : List (List ℕ)) (n : ℕ) (tree : PredTree) → IsPred n tree → fault_with choice tree ≡ None → IsSingle (net_with choice names tree)
+pub net-single : (choice : NetLeaves) (names : List (List ℕ)) (n : ℕ) (tree : PredTree) → IsPred n tree → fault_in choice tree ≡ None → IsSingle (net_of choice names tree)
 net-single choice names n tree is none =
     All-map (λ leaf. AllPairs Differ leaf.moves) (leaf_of choice (most_helpers choice tree)) (atoms tree) (All-weaker (IsBuiltIn choice tree n) (λ a. AllPairs Differ (leaf_of choice (most_helpers choice tree) a).moves) (λ a b. b.single) (atoms tree) (pred_built choice n tree is none))
 
 -- ---- the net
 
-all_helped : (choice : LeafChoice) (helpers n : ℕ) (xs : List PredTree) → 1 ≤ length xs → All (IsBuilt choice helpers n) xs → helpers_of (map (leaf_of choice helpers) xs) ≡ helpers
+all_helped : (choice : NetLeaves) (helpers n : ℕ) (xs : List PredTree) → 1 ≤ length xs → All (IsBuilt choice helpers n) xs → helpers_of (map (leaf_of choice helpers) xs) ≡ helpers
 all_helped choice helpers n [] some built = absurd (omega (arith, some))
 all_helped choice helpers n (a ∷ xs) some built = (built 0 a (omega arith)).helped
 
-not-wide : (choice : LeafChoice) (tree : PredTree) (n : ℕ) → All (IsBuiltIn choice tree n) (atoms tree) → KeepsSizes choice tree → is_wide (map (leaf_of choice (most_helpers choice tree)) (atoms tree)) ≡ true → length (atoms tree) ≤ WIDE_LEAF_LIMIT
+not-wide : (choice : NetLeaves) (tree : PredTree) (n : ℕ) → All (IsBuiltIn choice tree n) (atoms tree) → KeepsSizes choice tree → is_wide (map (leaf_of choice (most_helpers choice tree)) (atoms tree)) ≡ true → length (atoms tree) ≤ WIDE_LEAF_LIMIT
 not-wide choice tree n built keeps wide = elim (cases_lt WIDE_LEAF_LIMIT (length (atoms tree))) [
   | inl many ↦ absurd (false≢true (sym (list_any_none is_wide_leaf (map (leaf_of choice (most_helpers choice tree)) (atoms tree)) (All-map (λ leaf. is_wide_leaf leaf ≡ false) (leaf_of choice (most_helpers choice tree)) (atoms tree) (λ k d l. (built k d l).narrow (keeps.not_wide many k d l)))) ∙ wide))
   | inr few ↦ few
 ]
 
-pub net-formed : (choice : LeafChoice) (names : List (List ℕ)) (tree : PredTree) → AreNames variable_name names → IsPred (length names) tree → fault_with choice tree ≡ None → IsNet (net_with choice names tree)
+pub net-formed : (choice : NetLeaves) (names : List (List ℕ)) (tree : PredTree) → AreNames variable_name names → IsPred (length names) tree → fault_in choice tree ≡ None → IsNet (net_of choice names tree)
 net-formed choice names tree formed is none =
     let n = length names in
     let built = pred_built choice n tree is none in
@@ -266,12 +279,12 @@ net-formed choice names tree formed is none =
       items = (let e = items-most 0 tree in let w = is.weight in let few = keeps.few in omega (arith, e, w, few));
       leaf_numbers = names-below 0 (length (map (leaf_of choice (most_helpers choice tree)) (atoms tree))) tree (omega (arith, long));
       depth = subst (λ o. IsSomeAnd o (λ d. d ≤ DEPTH_LIMIT)) (sym (combined-postfix depth_operators tree)) (let e = depth-most 0 tree in let w = is.weight in omega (arith, e, w));
-      helpers = All-map (λ leaf. length leaf.helpers ≡ number_of_helpers (net_with choice names tree)) (leaf_of choice (most_helpers choice tree)) (atoms tree) (All-weaker (IsBuiltIn choice tree n) (λ a. length (leaf_of choice (most_helpers choice tree) a).helpers ≡ number_of_helpers (net_with choice names tree)) (λ a b. b.helped ∙ sym (all_helped choice (most_helpers choice tree) n (atoms tree) (some_atom tree) built)) (atoms tree) built);
+      helpers = All-map (λ leaf. length leaf.helpers ≡ number_of_helpers (net_of choice names tree)) (leaf_of choice (most_helpers choice tree)) (atoms tree) (All-weaker (IsBuiltIn choice tree n) (λ a. length (leaf_of choice (most_helpers choice tree) a).helpers ≡ number_of_helpers (net_of choice names tree)) (λ a b. b.helped ∙ sym (all_helped choice (most_helpers choice tree) n (atoms tree) (some_atom tree) built)) (atoms tree) built);
       wide = λ w. (let few = not-wide choice tree n built keeps w in omega (arith, long, few));
     }
 
 -- the proof allows the steps of all atoms together
-pub bound-is : (choice : LeafChoice) (helpers : ℕ) (xs : List PredTree) (parts : List LeafProof) → AreAtomProofs choice helpers xs parts → sum_by (λ (part : LeafProof). layers_bound part.layers) parts ≡ sum_by (atom_steps choice) xs
+pub bound-is : (choice : NetLeaves) (helpers : ℕ) (xs : List PredTree) (parts : List LeafProof) → AreAtomProofs choice helpers xs parts → sum_by (λ (part : LeafProof). layers_bound part.layers) parts ≡ sum_by (atom_steps choice) xs
 bound-is choice helpers [] [] h = refl
 bound-is choice helpers [] (part ∷ parts) h = absurd h
 bound-is choice helpers (x ∷ xs) [] h = absurd h
@@ -283,20 +296,20 @@ bound-is choice helpers (x ∷ xs) (part ∷ parts) h =
     omega (arith, a, b, here, more)
 
 -- so the net is right
-pub net-right : (choice : LeafChoice) (names : List (List ℕ)) (tree : PredTree) (parts : List LeafProof) → AreAtomProofs choice (most_helpers choice tree) (atoms tree) parts → AreNames variable_name names → IsPred (length names) tree
-    → fault_with choice tree ≡ None → IsRight (net_with choice names tree) (over_count (length names) tree) (record { leaves = parts })
+pub net-right : (choice : NetLeaves) (names : List (List ℕ)) (tree : PredTree) (parts : List LeafProof) → AreAtomProofs choice (most_helpers choice tree) (atoms tree) parts → AreNames variable_name names → IsPred (length names) tree
+    → fault_in choice tree ≡ None → IsRight (net_of choice names tree) (over_count (length names) tree) (record { leaves = parts })
 net-right choice names tree parts h formed is none =
     let n = length names in
     let within = (proof-within choice names n tree parts h is none).parts in
     let preds = proof-preds choice n tree parts h is in
-    sound (net_with choice names tree) (over_count n tree) (record { leaves = parts }) (net-formed choice names tree formed is none)
+    sound (net_of choice names tree) (over_count n tree) (record { leaves = parts }) (net-formed choice names tree formed is none)
     (λ i part at.
     let over = (All-slice_get (IsLeafProofWithin n) parts i part within at).pred in
     (over, subst (λ k. HasAtoms k part.pred.tree) (sym over) (All-slice_get (IsPart n) parts i part preds at).atoms))
     (proof-valid choice names n tree parts h)
 
 -- the net as the code puts it together
-pub net-as : (choice : LeafChoice) (names copies : List (List ℕ)) (tree : PredTree) (leaves : List LeafModel) (items : List Item) → copies ≡ names → leaves ≡ map (leaf_of choice (most_helpers choice tree)) (atoms tree) → items ≡ postfix 0 tree → record { variables = copies; leaves = leaves; combine = items } ≡ net_with choice names tree
+pub net-as : (choice : NetLeaves) (names copies : List (List ℕ)) (tree : PredTree) (leaves : List LeafModel) (items : List Item) → copies ≡ names → leaves ≡ map (leaf_of choice (most_helpers choice tree)) (atoms tree) → items ≡ postfix 0 tree → record { variables = copies; leaves = leaves; combine = items } ≡ net_of choice names tree
 net-as choice names copies tree leaves items en el ei =
     let net : List (List ℕ) → List LeafModel → List Item → NetModel = λ n l i. record { variables = n; leaves = l; combine = i } in
     ap (λ n. net n leaves items) en ∙ ap (λ l. net names l items) el ∙ ap (λ i. net names (map (leaf_of choice (most_helpers choice tree)) (atoms tree)) i) ei

@@ -17,16 +17,17 @@ ghost use Rattle.comp_net.specs.Atoms.{atoms, most_helpers, AreBuildable};
 ghost use Rattle.comp_threshold.specs.declared.limits.TheConstants.{WIDTH_LIMIT};
 ghost use Rattle.comp_threshold.specs.ThresholdLeaf.{threshold_width};
 ghost use Rattle.comp_threshold.specs.Built.{IsThreshold};
-ghost use Rattle.comp_net.specs.BuiltNet.{net_with};
-ghost use Rattle.comp_net.specs.BuiltBound.{built_bound};
+ghost use Rattle.comp_net.specs.BuiltNet.{net_of};
+ghost use Rattle.comp_net.specs.BuiltBound.{bound_in};
 ghost use Rattle.comp_net.specs.Building.{IsAtom, AddsLeaf, AddsTree};
-ghost use Rattle.comp_net.specs.CompileFaults.{fault_with};
+ghost use Rattle.comp_net.specs.CompileFaults.{fault_in};
 
-use crate::choice::{LeafChoice, LessLeaf, less_leaf};
+use crate::choice::{LessLeaf, NetLeaves, less_leaf};
 use crate::helpers::count_helpers;
 use cert_base::{LeafProof, Proof};
 use comp_flock::{flock, offset_flock, offset_helper_count};
 use comp_powers::powers;
+use comp_prefix::prefix_flock;
 use comp_remainder::remainder;
 use comp_threshold::{ThresholdFault, threshold};
 use pop_io::{Failure, List, NoMemory, Text};
@@ -57,7 +58,7 @@ impl Built {
     fn push_less(
         &mut self,
         alloc: Global,
-        choice: LeafChoice,
+        choice: NetLeaves,
         helpers: u32,
         coefs: &[i64],
         bound: i64,
@@ -75,7 +76,7 @@ impl Built {
     fn push_rest(
         &mut self,
         alloc: Global,
-        choice: LeafChoice,
+        choice: NetLeaves,
         helpers: u32,
         coefs: &[i64],
         modulus: u32,
@@ -94,7 +95,7 @@ impl Built {
     fn push_tree(
         &mut self,
         alloc: Global,
-        choice: LeafChoice,
+        choice: NetLeaves,
         helpers: u32,
         tree: &Tree,
     ) -> Result<(), NoMemory>
@@ -149,7 +150,7 @@ fn narrow(alloc: Global, coefs: &[i64], bound: i64) -> Result<(Leaf, LeafProof),
 /// The leaf of an atom `Less`, with spare helpers where it needs less than there are.
 fn less(
     alloc: Global,
-    choice: LeafChoice,
+    choice: NetLeaves,
     helpers: u32,
     coefs: &[i64],
     bound: i64,
@@ -166,6 +167,7 @@ fn less(
             let spare = helpers - offset_helper_count(bound, power);
             offset_flock(alloc, coefs, bound, power, spare)
         }
+        LessLeaf::Prefix(top) => prefix_flock(alloc, coefs, bound, top),
         LessLeaf::Powers(range) => powers(alloc, coefs, bound, range, helpers - (range + 2)),
         LessLeaf::NoLeaf => unreachable!(),
     }
@@ -184,16 +186,16 @@ fn copy_names(alloc: Global, names: &List<Text>) -> Result<List<Text>, NoMemory>
 /// The built net and its proof, for a predicate that has one.
 pub(crate) fn build(
     alloc: Global,
-    choice: LeafChoice,
+    choice: NetLeaves,
     pred: &Pred,
     names: &List<Text>,
 ) -> Result<(Net, Proof), NoMemory>
     requires formed { AreNames variable_name names.now }
     requires count { length names.now ≡ pred.now.variables }
-    requires none { fault_with choice pred.now.tree ≡ None }
-    ensures net { IfOk result (λ both. both.0 ≡ net_with choice names.now pred.now.tree) }
+    requires none { fault_in choice pred.now.tree ≡ None }
+    ensures net { IfOk result (λ both. both.0 ≡ net_of choice names.now pred.now.tree) }
     ensures valid { IfOk result (λ both. ValidProof both.0 pred.now both.1) }
-    ensures bound { IfOk result (λ both. proof_bound both.1 ≡ built_bound choice pred.now.tree) }
+    ensures bound { IfOk result (λ both. proof_bound both.1 ≡ bound_in choice pred.now.tree) }
     ensures within { IfOk result (λ both. IsProofWithin pred.now.variables (length both.0.leaves) both.1) }
     ensures formed { IfOk result (λ both. IsNet both.0) }
     ensures preds { IfOk result (λ both. All (λ part. IsPred pred.now.variables part.pred.tree) both.1.leaves) }

@@ -1,7 +1,7 @@
 //! A compiled net as an example, and which of two leaves is smaller.
 
 ghost use Rattle.comp_net.specs.AtLeastTwo.{AtLeastTwoComputes};
-ghost use Rattle.comp_net.specs.Smaller.{SmallerLaw};
+ghost use Rattle.comp_net.specs.Smaller.{SmallerLaw, PrefixSmallerLaw};
 
 /// The net that `compile_flocks` builds for `x >= 2` has three states and three moves, and computes it.
 /// A theorem; the body is empty.
@@ -13,4 +13,10 @@ pub fn at_least_two_computes()
 /// A theorem; the body is empty.
 pub fn flocks_are_smaller()
     ensures { SmallerLaw }
+{}
+
+/// Where an atom has a leaf of prefixes, it has fewer states than powers.
+/// A theorem; the body is empty.
+pub fn prefixes_are_smaller()
+    ensures { PrefixSmallerLaw }
 {}

@@ -4,13 +4,14 @@ ghost use Rattle.std.specs.Prelude.{◌≡◌, ◌≤◌, ◌<◌, ◌++◌, len
 ghost use Rattle.pres_ast.specs.TreeOf.{tree_of};
 ghost use Rattle.pres_ast.specs.PredTree.{LessThan};
 ghost use Rattle.comp_net.specs.Atoms.{AreShort, atom_size, rest_size, is_none as has_none};
-ghost use Rattle.comp_net.specs.CompileFaults.{fault_of_sizes, fault_with, sizes_of, missing_of, size_fault};
+ghost use Rattle.comp_net.specs.CompileFaults.{fault_of_sizes, fault_in, sizes_of, missing_of, size_fault};
 ghost use Rattle.comp_net.specs.CompileFaults.{first_missing, first_size_over, first_wide_size};
 
-use crate::choice::{LeafChoice, LessLeaf, greatest_narrow_size, greatest_size, less_leaf};
+use crate::choice::{LessLeaf, NetLeaves, greatest_narrow_size, greatest_size, less_leaf};
 use crate::fault::CompileFault;
 use crate::limits::COUNT_LIMIT;
 use comp_powers::powers_states;
+use comp_prefix::prefix_states;
 use comp_threshold::width;
 use pop_io::{NoMemory, VARIABLE_LIMIT};
 use pop_net::{LEAF_LIMIT, WIDE_LEAF_LIMIT};
@@ -20,10 +21,10 @@ use std::alloc::Global;
 /// The first reason not to build a net, if there is one.
 pub(crate) fn fault_of(
     alloc: Global,
-    choice: LeafChoice,
+    choice: NetLeaves,
     pred: &Pred,
 ) -> Result<Option<CompileFault>, NoMemory>
-    ensures { IfOk result (λ fault. fault ≡ fault_with choice pred.now.tree) }
+    ensures { IfOk result (λ fault. fault ≡ fault_in choice pred.now.tree) }
 {
     let tree = pred.tree();
     let mut missing = Vec::new(alloc);
@@ -34,7 +35,7 @@ pub(crate) fn fault_of(
 }
 
 /// The size of the leaf of an atom `Less`.
-fn less_size(choice: LeafChoice, coefs: &[i64], bound: i64) -> u64
+fn less_size(choice: NetLeaves, coefs: &[i64], bound: i64) -> u64
     requires { length coefs.now ≤ VARIABLE_LIMIT }
     ensures { result ≡ atom_size choice (LessThan coefs.now bound) }
 {
@@ -42,18 +43,19 @@ fn less_size(choice: LeafChoice, coefs: &[i64], bound: i64) -> u64
         LessLeaf::Threshold => width(coefs, bound),
         LessLeaf::Flock(_) => 0,
         LessLeaf::Offset(power) => u64::from(power) + 2,
+        LessLeaf::Prefix(top) => u64::from(prefix_states(bound, top)),
         LessLeaf::Powers(range) => u64::from(powers_states(coefs, range)),
         LessLeaf::NoLeaf => 0,
     }
 }
 
 /// The size of the leaf of an atom `Rest`.
-fn size_of_rest(choice: LeafChoice, modulus: u32) -> u64
+fn size_of_rest(choice: NetLeaves, modulus: u32) -> u64
     ensures { result ≡ rest_size choice modulus }
 {
     match choice {
-        LeafChoice::Plain | LeafChoice::Flocks => 0,
-        LeafChoice::Succinct => u64::from(modulus) + 2,
+        NetLeaves::Plain | NetLeaves::Flocks => 0,
+        NetLeaves::Alone | NetLeaves::Helped => u64::from(modulus) + 2,
     }
 }
 
@@ -64,7 +66,7 @@ fn is_none(leaf: LessLeaf) -> bool
 }
 
 /// Adds for each atom whether it has no leaf, from left to right.
-fn push_missing(missing: &mut Vec<bool>, choice: LeafChoice, tree: &Tree) -> Result<(), NoMemory>
+fn push_missing(missing: &mut Vec<bool>, choice: NetLeaves, tree: &Tree) -> Result<(), NoMemory>
     ensures { OnOk result (missing.new.items ≡ missing.old.items ++ missing_of choice (tree_of tree.now)) }
 {
     match tree {
@@ -86,7 +88,7 @@ fn push_missing(missing: &mut Vec<bool>, choice: LeafChoice, tree: &Tree) -> Res
 }
 
 /// Adds the size of each atom's leaf, from left to right.
-fn push_sizes(sizes: &mut Vec<u64>, choice: LeafChoice, tree: &Tree) -> Result<(), NoMemory>
+fn push_sizes(sizes: &mut Vec<u64>, choice: NetLeaves, tree: &Tree) -> Result<(), NoMemory>
     requires { AreShort (tree_of tree.now) }
     ensures { OnOk result (sizes.new.items ≡ sizes.old.items ++ sizes_of choice (tree_of tree.now)) }
 {
@@ -107,7 +109,7 @@ fn push_sizes(sizes: &mut Vec<u64>, choice: LeafChoice, tree: &Tree) -> Result<(
 }
 
 /// What is wrong with atoms of which some have no leaf, and the others' leaves these sizes.
-fn fault_by(choice: LeafChoice, missing: &[bool], sizes: &[u64]) -> Option<CompileFault>
+fn fault_by(choice: NetLeaves, missing: &[bool], sizes: &[u64]) -> Option<CompileFault>
     requires few { length sizes.now ≤ COUNT_LIMIT }
     requires same { length missing.now ≡ length sizes.now }
     ensures { result ≡ fault_of_sizes choice missing.now sizes.now }
@@ -126,12 +128,12 @@ fn fault_by(choice: LeafChoice, missing: &[bool], sizes: &[u64]) -> Option<Compi
 }
 
 /// The fault of an atom with a size over the limit.
-fn too_large(choice: LeafChoice, atom: u32, size: u64) -> CompileFault
+fn too_large(choice: NetLeaves, atom: u32, size: u64) -> CompileFault
     ensures { result ≡ size_fault choice atom size }
 {
     match choice {
-        LeafChoice::Plain | LeafChoice::Flocks => CompileFault::TooWide { atom, s: size },
-        LeafChoice::Succinct => CompileFault::ManyStates { atom, states: size },
+        NetLeaves::Plain | NetLeaves::Flocks => CompileFault::TooWide { atom, s: size },
+        NetLeaves::Alone | NetLeaves::Helped => CompileFault::ManyStates { atom, states: size },
     }
 }
 
@@ -152,7 +154,7 @@ fn first_over(sizes: &[u64], limit: u64) -> Option<usize>
 }
 
 /// Among too many atoms for a wide leaf, the first that makes one.
-fn first_wide(choice: LeafChoice, sizes: &[u64]) -> Option<usize>
+fn first_wide(choice: NetLeaves, sizes: &[u64]) -> Option<usize>
     ensures first { result ≡ first_wide_size choice sizes.now }
     ensures bound { IfSome result (λ i. i < length sizes.now) }
 {

@@ -2,10 +2,10 @@
 
 ghost use Rattle.std.specs.Prelude.{◌≡◌, length};
 ghost use Rattle.pop_io.specs.Names.{AreNames, variable_name};
-ghost use Rattle.comp_net.specs.Compiles.{Compiles};
+ghost use Rattle.comp_net.specs.Compiles.{Compiles, CompilesBy};
 
 use crate::building::build;
-use crate::choice::LeafChoice;
+use crate::choice::{LeafChoice, NetLeaves, leaves_for};
 use crate::fault::CompileFault;
 use crate::sizes::fault_of;
 use cert_base::Proof;
@@ -15,6 +15,23 @@ use pres_ast::Pred;
 use std::alloc::Global;
 
 /// The built net with these leaves, and its proof.
+fn compile_by(
+    alloc: Global,
+    leaves: NetLeaves,
+    pred: &Pred,
+    names: &List<Text>,
+) -> Result<(Net, Proof), Failure<CompileFault>>
+    requires formed { AreNames variable_name names.now }
+    requires count { length names.now ≡ pred.now.variables }
+    ensures { CompilesBy leaves names.now pred.now result }
+{
+    if let Some(fault) = fault_of(alloc, leaves, pred)? {
+        return Err(Failure::Fault(fault));
+    }
+    Ok(build(alloc, leaves, pred, names)?)
+}
+
+/// The built net with the leaves that are asked for, and its proof.
 fn compile_with(
     alloc: Global,
     choice: LeafChoice,
@@ -25,10 +42,8 @@ fn compile_with(
     requires count { length names.now ≡ pred.now.variables }
     ensures { Compiles choice names.now pred.now result }
 {
-    if let Some(fault) = fault_of(alloc, choice, pred)? {
-        return Err(Failure::Fault(fault));
-    }
-    Ok(build(alloc, choice, pred, names)?)
+    let leaves = leaves_for(choice, pred.tree());
+    compile_by(alloc, leaves, pred, names)
 }
 
 /// The built net over these names, and a valid proof that it computes the predicate. Whether there is one is known
@@ -59,9 +74,10 @@ pub fn compile_flocks(
     compile_with(alloc, LeafChoice::Flocks, pred, names)
 }
 
-/// As `compile`, but with O(log s) states for an atom whose greatest number is s, and with helpers. An atom that counts
-/// its agents (`offset_power`) has the leaf of a flock with an offset, and any other atom `Less` one of powers. All
-/// leaves have as many helpers as the one that needs most.
+/// As `compile`, but with O(log s) states for an atom whose greatest number is s. If each atom counts its agents
+/// (`prefix_top`) or is a remainder, the net has no helpers, and an atom that counts its agents has the leaf of a flock
+/// of prefixes. Otherwise such an atom has the leaf of a flock with an offset, and any other atom `Less` one of powers.
+/// All leaves have as many helpers as the one that needs most.
 pub fn compile_succinct(
     alloc: Global,
     pred: &Pred,

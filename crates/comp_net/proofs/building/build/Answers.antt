@@ -7,7 +7,7 @@ use Rattle.cert_base.specs.ValidProof.{ValidProof}
 use Rattle.cert_base.specs.FactsAndCases.{over_count}
 use Rattle.pop_checker.specs.Sound.{IsRight}
 use Rattle.comp_net.specs.Atoms.{atoms, most_helpers, AreBuildable}
-use Rattle.comp_net.specs.BuiltNet.{net_with}
+use Rattle.comp_net.specs.BuiltNet.{net_of}
 use Rattle.comp_net.specs.Building.{AreAtomProofs}
 use Rattle.comp_net.proofs.Adding.{whole, whole_as}
 use Rattle.comp_net.proofs.Valid.{pred_buildable, proof-valid, proof-within, proof-preds, bound-is, net-right, net-single, net-formed, net-as}
@@ -46,6 +46,6 @@ returns c =
       preds = proof-preds choice pred.variables tree c.from_vec-3.result parts c.tree-tree.ensures.limits;
       single = subst IsSingle (sym net) (net-single choice names pred.variables tree c.tree-tree.ensures.limits c.requires.none);
       right = subst (λ (n : NetModel). IsRight n pred (record { leaves = c.from_vec-3.result })) (sym net)
-          (subst (λ k. IsRight (net_with choice names tree) (over_count k tree) (record { leaves = c.from_vec-3.result })) c.requires.count
+          (subst (λ k. IsRight (net_of choice names tree) (over_count k tree) (record { leaves = c.from_vec-3.result })) c.requires.count
           (net-right choice names tree c.from_vec-3.result parts c.requires.formed (subst (λ n. IsPred n tree) (sym c.requires.count) c.tree-tree.ensures.limits) c.requires.none));
     }

@@ -10,12 +10,13 @@ use Rattle.comp_threshold.specs.ThresholdLeaf.{threshold_width, place_of_value}
 use Rattle.comp_threshold.specs.Built.{IsThreshold}
 use Rattle.comp_flock.specs.FlockLeaf.{enough_for, flock_start, offset_leaf_of, offset_helper_count, IsOffset}
 use Rattle.comp_flock.specs.FlockProof.{flock_pred_of, offset_pred_of, offset_steps}
+use Rattle.comp_prefix.specs.PrefixLeaf.{IsPrefix, prefix_leaf_of, last_place}
 use Rattle.comp_powers_leaf.specs.PowersLeaf.{place, start_of, coefficient_of, powers_leaf_of, IsPowers}
 use Rattle.comp_powers.specs.PowersProof.{powers_pred_of, powers_steps}
 use Rattle.comp_net.specs.Atoms.{less_leaf_for}
-use Rattle.comp_net.specs.declared.choice.LessLeaf.TheVariants.{Threshold, Flock, Offset, Powers}
+use Rattle.comp_net.specs.declared.choice.LessLeaf.TheVariants.{Threshold, Flock, Offset, Prefix, Powers}
 use Rattle.comp_net.proofs.Adding.{less_atom}
-use Rattle.comp_net.proofs.Chosen.{chosen_as, threshold_narrow, offset_low, offset_is_one, powers_found}
+use Rattle.comp_net.proofs.Chosen.{chosen_as, threshold_narrow, offset_low, offset_is_one, prefix_is_one, powers_found}
 use Rattle.comp_net.proofs.building.less.Goals as goal
 
 pub narrow-requires-clause-narrow : goal.narrow-requires-clause-narrow
@@ -45,6 +46,13 @@ offset_flock-requires-clause-offset c =
     let same = to_z-of_z w64 c.args.bound fits in
     let some = sym (c.less_leaf.ensures ∙ ap (less_leaf_for c.args.choice c.args.coefs.now) same) ∙ c.in-Offset.is in
     subst (λ z. IsOffset c.args.coefs.now z c.in-Offset.power) (sym same) (offset_is_one c.args.choice c.args.coefs.now c.args.bound c.in-Offset.power some c.requires.atom.0)
+
+pub prefix_flock-requires : goal.prefix_flock-requires
+prefix_flock-requires c =
+    let fits : SFits w64 c.args.bound = search rules in
+    let same = to_z-of_z w64 c.args.bound fits in
+    let some = sym (c.less_leaf.ensures ∙ ap (less_leaf_for c.args.choice c.args.coefs.now) same) ∙ c.in-Prefix.is in
+    subst (λ z. IsPrefix c.args.coefs.now z c.in-Prefix.top) (sym same) (prefix_is_one c.args.choice c.args.coefs.now c.args.bound c.in-Prefix.top some c.requires.atom.0)
 
 pub powers-requires-clause-range : goal.powers-requires-clause-range
 powers-requires-clause-range c =
@@ -90,6 +98,20 @@ returns-in-Offset c =
     let f = subst (λ n. IsBuilt (offset_leaf_of coefs bound k (c.args.helpers - n)) (offset_pred_of coefs bound) (offset_steps k) both.0 both.1) own e in
     less_atom c.args.choice c.args.helpers coefs bound (Offset k) (offset_pred_of coefs bound) both.0 both.1 some f refl (sym (length-map coefs (flock_start (enough_for bound) k))))
     c.offset_flock.ensures
+
+pub returns-in-Prefix : goal.returns-in-Prefix
+returns-in-Prefix c =
+    let fits : SFits w64 c.args.bound = search rules in
+    let same = to_z-of_z w64 c.args.bound fits in
+    let coefs = c.args.coefs.now in
+    let bound = c.args.bound in
+    let top = c.in-Prefix.top in
+    let some = sym (c.less_leaf.ensures ∙ ap (less_leaf_for c.args.choice coefs) same) ∙ c.in-Prefix.is in
+    IfOk-weaker c.prefix_flock.result _ _
+    (λ both h.
+    let e = subst (λ z. IsBuilt (prefix_leaf_of coefs z top) (offset_pred_of coefs z) (offset_steps (last_place z top)) both.0 both.1) same h in
+    less_atom c.args.choice c.args.helpers coefs bound (Prefix top) (offset_pred_of coefs bound) both.0 both.1 some e refl (sym (length-map coefs (flock_start (enough_for bound) (last_place bound top)))))
+    c.prefix_flock.ensures
 
 pub returns-in-Powers : goal.returns-in-Powers
 returns-in-Powers c =
