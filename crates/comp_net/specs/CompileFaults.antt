@@ -58,3 +58,6 @@ RefusesIn choice tree f = fault_in choice tree ≡ Some f
 -- with the leaves that are asked for
 abbrev pub fault_with : LeafChoice → PredTree → Option CompileFault
 fault_with choice tree = fault_in (leaves_for choice tree) tree
+
+abbrev pub RefusesWith : LeafChoice → PredTree → CompileFault → Type 0
+RefusesWith choice tree f = fault_with choice tree ≡ Some f

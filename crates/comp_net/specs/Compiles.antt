@@ -11,20 +11,18 @@ use Rattle.cert_base.specs.ProofLimits.{IsProofWithin}
 use Rattle.cert_base.specs.ValidProof.{ValidProof}
 use Rattle.pop_checker.specs.Sound.{IsRight}
 use Rattle.comp_net.specs.declared.choice.LeafChoice.{LeafChoice}
-use Rattle.comp_net.specs.declared.choice.NetLeaves.{NetLeaves}
 use Rattle.comp_net.specs.declared.fault.CompileFault.{CompileFault}
-use Rattle.comp_net.specs.Atoms.{leaves_for}
-use Rattle.comp_net.specs.BuiltNet.{net_of}
-use Rattle.comp_net.specs.BuiltBound.{bound_in}
-use Rattle.comp_net.specs.CompileFaults.{fault_in, RefusesIn}
+use Rattle.comp_net.specs.BuiltNet.{net_with}
+use Rattle.comp_net.specs.BuiltBound.{built_bound}
+use Rattle.comp_net.specs.CompileFaults.{fault_with, RefusesWith}
 
 -- the built net over these names with a valid proof, or the first fault of the predicate
-pub record CompilesBy (choice : NetLeaves) (names : List (List ℕ)) (pred : PredModel)
+pub record Compiles (choice : LeafChoice) (names : List (List ℕ)) (pred : PredModel)
     (result : Result (NetModel × Proof) (Failure CompileFault)) : Type 0 where
-  pub net : IfOk result (λ both. both.0 ≡ net_of choice names pred.tree)
+  pub net : IfOk result (λ both. both.0 ≡ net_with choice names pred.tree)
   pub valid : IfOk result (λ both. ValidProof both.0 pred both.1)
   -- the proof allows as many steps per agent as those of the predicate's atoms together
-  pub bound : IfOk result (λ both. proof_bound both.1 ≡ bound_in choice pred.tree)
+  pub bound : IfOk result (λ both. proof_bound both.1 ≡ built_bound choice pred.tree)
   pub within : IfOk result (λ both. IsProofWithin pred.variables (length both.0.leaves) both.1)
   -- the net is well formed, and the leaves' predicates are over its variables
   pub formed : IfOk result (λ both. IsNet both.0)
@@ -33,9 +31,5 @@ pub record CompilesBy (choice : NetLeaves) (names : List (List ℕ)) (pred : Pre
   pub single : IfOk result (λ both. IsSingle both.0)
   -- the net computes the predicate, and can be led to its end by meetings
   pub right : IfOk result (λ both. IsRight both.0 pred both.1)
-  pub accepted : IfOk result (λ both. fault_in choice pred.tree ≡ None)
-  pub refused : IfFault result (RefusesIn choice pred.tree)
-
--- with the leaves that are asked for
-abbrev pub Compiles : LeafChoice → List (List ℕ) → PredModel → Result (NetModel × Proof) (Failure CompileFault) → Type 0
-Compiles choice names pred result = CompilesBy (leaves_for choice pred.tree) names pred result
+  pub accepted : IfOk result (λ both. fault_with choice pred.tree ≡ None)
+  pub refused : IfFault result (RefusesWith choice pred.tree)

@@ -1,8 +1,19 @@
 //! A predicate in, a certified net out.
 
-ghost use Rattle.std.specs.Prelude.{◌≡◌, length};
+ghost use Rattle.std.specs.Prelude.{◌≡◌, None, All, length, IfOk};
 ghost use Rattle.pop_io.specs.Names.{AreNames, variable_name};
-ghost use Rattle.comp_net.specs.Compiles.{Compiles, CompilesBy};
+ghost use Rattle.pop_io.specs.Failures.{IfFault};
+ghost use Rattle.pop_net.specs.NetModel.{IsNet};
+ghost use Rattle.pop_net.specs.Reaction.{IsSingle};
+ghost use Rattle.pres_ast.specs.PredModel.{IsPred};
+ghost use Rattle.cert_base.specs.ProofBound.{proof_bound};
+ghost use Rattle.cert_base.specs.ProofLimits.{IsProofWithin};
+ghost use Rattle.cert_base.specs.ValidProof.{ValidProof};
+ghost use Rattle.pop_checker.specs.Sound.{IsRight};
+ghost use Rattle.comp_net.specs.BuiltNet.{net_of};
+ghost use Rattle.comp_net.specs.BuiltBound.{bound_in};
+ghost use Rattle.comp_net.specs.CompileFaults.{fault_in, RefusesIn};
+ghost use Rattle.comp_net.specs.Compiles.{Compiles};
 
 use crate::building::build;
 use crate::choice::{LeafChoice, NetLeaves, leaves_for};
@@ -23,7 +34,16 @@ fn compile_by(
 ) -> Result<(Net, Proof), Failure<CompileFault>>
     requires formed { AreNames variable_name names.now }
     requires count { length names.now ≡ pred.now.variables }
-    ensures { CompilesBy leaves names.now pred.now result }
+    ensures net { IfOk result (λ both. both.0 ≡ net_of leaves names.now pred.now.tree) }
+    ensures valid { IfOk result (λ both. ValidProof both.0 pred.now both.1) }
+    ensures bound { IfOk result (λ both. proof_bound both.1 ≡ bound_in leaves pred.now.tree) }
+    ensures within { IfOk result (λ both. IsProofWithin pred.now.variables (length both.0.leaves) both.1) }
+    ensures formed { IfOk result (λ both. IsNet both.0) }
+    ensures preds { IfOk result (λ both. All (λ part. IsPred pred.now.variables part.pred.tree) both.1.leaves) }
+    ensures single { IfOk result (λ both. IsSingle both.0) }
+    ensures right { IfOk result (λ both. IsRight both.0 pred.now both.1) }
+    ensures accepted { IfOk result (λ both. fault_in leaves pred.now.tree ≡ None) }
+    ensures refused { IfFault result (RefusesIn leaves pred.now.tree) }
 {
     if let Some(fault) = fault_of(alloc, leaves, pred)? {
         return Err(Failure::Fault(fault));
