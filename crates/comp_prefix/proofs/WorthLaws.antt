@@ -77,9 +77,6 @@ module _ (ws : List ℕ) (c top k : ℕ) (is : IsChain ws c top k) where
       go (inl n) rest = let r = rest n in omega (arith, r, up)
       go (inr n) rest = let same = ap w (let e : p ≡ q = omega (arith, l, n) in e) in omega (arith, up, same)
 
-  pub some-worth : (q : ℕ) → 1 ≤ q → q ≤ k + 1 → 0 < w q
-  some-worth q l m = let r = rising 0 q (omega (arith, l)) m in omega (arith, r)
-
   pub no-more : (q : ℕ) → q ≤ k + 1 → w q ≤ c
   no-more q l = go (cases_lt q (k + 1))
     where

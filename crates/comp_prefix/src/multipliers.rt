@@ -5,7 +5,6 @@ ghost use Rattle.std.specs.List.{range_with_len};
 ghost use Rattle.cert_base.specs.Rows.{zeros};
 ghost use Rattle.comp_trees.specs.LeaderTree.{company_of};
 ghost use Rattle.comp_flock.specs.declared.limits.TheConstants.{POWER_LIMIT};
-ghost use Rattle.comp_flock.specs.FlockLeaf.{flock_state_count};
 ghost use Rattle.comp_flock.specs.FlockProof.{for_states};
 ghost use Rattle.comp_prefix.specs.PrefixLeaf.{AreWorths};
 ghost use Rattle.comp_prefix.specs.PrefixProof.{greatest_worth, lost_worth as lost_of, lesser_worth as lesser_of};

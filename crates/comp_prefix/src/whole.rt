@@ -1,6 +1,6 @@
 //! The leaf with its proof.
 
-ghost use Rattle.std.specs.Prelude.{◌≡◌, length, IfOk};
+ghost use Rattle.std.specs.Prelude.{◌≡◌, IfOk};
 ghost use Rattle.comp_trees.specs.BuiltLeaf.{IsBuilt};
 ghost use Rattle.comp_flock.specs.FlockProof.{offset_pred_of, offset_steps};
 ghost use Rattle.comp_prefix.specs.PrefixLeaf.{IsPrefix, AreWorths, bound_worths, last_place, prefix_leaf_of};
