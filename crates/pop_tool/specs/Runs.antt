@@ -12,8 +12,8 @@ use Rattle.pop_words.specs.Kinds.{most_workers_of}
 use Rattle.pop_journal.specs.declared.last.Last.{Last}
 use Rattle.pop_journal.specs.declared.last.Last.TheVariants.{Undecided as UndecidedBy}
 
--- the last line of a journal that ends in this crowd: the line that is told of a terminal one, if no move of this net is
--- possible in it, and else the least pair of agents that such a move changes
+-- the last line of a journal that ends in this crowd: the line that is told of a terminal one, if no move of this net
+-- is possible in it, and else the least pair of agents that such a move changes
 pub record IsLastLine (net : NetModel) (told : Last) (end : CrowdModel) (last : Last) : Type 0 where
   pub ended : IsTerminal (Step net) end → last ≡ told
   pub undecided : ¬ IsTerminal (Step net) end

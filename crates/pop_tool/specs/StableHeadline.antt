@@ -90,9 +90,9 @@ pub record SettledSays (input text : List ℕ) : Type 0 where
   pub stays : IsOutputStable bundle.net (predicate_value bundle.pred.tree counts) end
   pub printed : text ≡ goals_text bundle.net takes end (predicate_value bundle.pred.tree counts)
 
--- The printed journal is a run of this kind of the bundle's net from the input crowd. It ends with `settled` exactly when
--- no move is possible in the last crowd of the layers that the counts choose. The value is the predicate's, and from
--- there on every agent outputs it, whatever happens. Then the status is Done, and else Undecided.
+-- The printed journal is a run of this kind of the bundle's net from the input crowd. It ends with `settled` exactly
+-- when no move of the layers that the counts choose is possible in the last crowd. The value is the predicate's, and
+-- from there on every agent outputs it, whatever happens. Then the status is Done, and else Undecided.
 pub record StableRunSays (kind : RunKind) (spec : RunSpec) (input text : List ℕ) (status : Status) : Type 0 where
   pub first : List ℕ
   pub second : List ℕ
@@ -117,8 +117,9 @@ pub record StableRunSays (kind : RunKind) (spec : RunSpec) (input text : List �
   pub done : (status ≡ Done) ↔ IsResting bundle.net bundle.proof counts end
   pub undecided : (status ≡ Undecided) ↔ ¬ IsResting bundle.net bundle.proof counts end
 
--- The input is a bundle with goals whose proof is valid, a crowd line, and the text of a journal. The journal has rounds
--- that are a run of this kind of the bundle's net from the input crowd, with this many meetings. It ends as `run` ends.
+-- The input is a bundle with goals whose proof is valid, a crowd line, and the text of a journal. The journal has
+-- rounds that are a run of this kind of the bundle's net from the input crowd, with this many meetings. It ends as `run`
+-- ends.
 pub record IsStableHeldInput (kind : RunKind) (input : List ℕ) (meetings : ℕ) : Type 0 where
   pub short : length input ≤ INPUT_LIMIT
   pub first : List ℕ
