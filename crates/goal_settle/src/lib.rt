@@ -1,6 +1,6 @@
 //! Settling a crowd by the goals that its input chooses, to outputs that are right for ever.
 //! It stands on `pop_settle`, `pop_hushed` and `goal_checker`.
-//! The layer above uses: `settle_goals` gives the settlement by the chosen layers, `resting_net` the net of their moves.
+//! The layer above uses: `settle_goals` gives the settlement by the chosen layers; `resting_net` is the net of these.
 #![tactic(auto)]
 
 mod chosen;

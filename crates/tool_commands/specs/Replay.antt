@@ -1,5 +1,5 @@
--- What `replay` makes of the lines of its input: a bundle, of which leaves may have goals, a crowd line, and a journal of
--- a run of one kind.
+-- What `replay` makes of the lines of its input: a bundle, of which leaves may have goals, a crowd line, and a journal
+-- of a run of one kind.
 use Rattle.std.specs.Prelude.{◌≡◌, ℕ, ◌+◌, List, ◌++◌, length, codes, decimal, Option, Some, None, Result, Ok, Err}
 use Rattle.pop_lines.specs.Lines.{ended}
 use Rattle.pop_net.specs.NetModel.{CrowdModel}
