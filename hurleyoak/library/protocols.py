@@ -2,7 +2,7 @@
 from __future__ import annotations
 
 from html import escape
-from typing import Any, Iterable, Sequence
+from typing import Any, Iterable
 
 from ..compiler.drafts import NotBuilt as NoLeaf
 from ..compiler.whole import Helpers
@@ -11,21 +11,22 @@ from ..engine.compiling import Way, make_bundle
 from ..engine.places import BY_SCRIPT
 from ..engine.program import NoProgram
 from ..faults import AskFault, InputFault
+from ..limits import AGENT_LEAST
 from ..protocol.nets import Net
 from ..protocol.predicatereader import read_predicate
 from ..protocol.predicates import value_at
-from ..simulation.carrying import Limits, carry_out
+from ..simulation.carrying import carry_out
 from ..simulation.crowds import counts_of, crowd_words
 from ..simulation.curves import Recorder
 from ..simulation.seeds import seed_of
-from ..simulation.simulation import ENDLESS, Simulation, Stop
+from ..simulation.simulation import AGENT_LIMIT, Simulation
 from ..simulation.sweepjobs import BY_SIMULATE, mark_of
-from ..text.files import load_path
 from ..text.given import with_predicate
 from ..text.loaded import Loaded, LoadedBundle, strict_bundle
-from ..text.files import load as load_text
 from ..text.relaxed import in_form
 from ..text.writer import text_of
+from . import asked
+from .asked import Size
 from .results import Found, Refuted, Run, Runs, Table, Verdict
 
 SECONDS, SMALLER, AGENTS, RUNS = 60.0, 4.0, 6, 20
@@ -55,7 +56,7 @@ class Protocol:
     @classmethod
     def parse(cls, text: str, name: str = GIVEN) -> Protocol:
         """The protocol of a `.pop` text or of JSON; InputFault says what is wrong and where."""
-        return cls(load_text(text, name))
+        return cls(asked.one_protocol(text, name))
 
     @property
     def net(self) -> Net:
@@ -117,12 +118,13 @@ class Protocol:
         return Found(protocol, verdict, None, verdict.line)
 
     def refute(self, agents: int = AGENTS, seconds: float = SECONDS) -> Refuted | None:
-        """A counterexample among all inputs of up to so many agents, played by the program; None where there is
-        none."""
+        """A counterexample among the inputs of up to so many agents, played by the program; None where none was found
+        in that time."""
         _ready()
         from ..search.explore import explore
         from ..search.whole import system_of
 
+        agents = asked.whole("agents", agents, max(0, AGENT_LEAST - len(self.net.leaves[0].helpers)), AGENT_LIMIT)
         flaw, _ = explore(system_of(self.net), self._loaded.whole_tree(), agents, seconds, meets=self._loaded.meets)
         return None if flaw is None else self._refuted(flaw)
 
@@ -135,14 +137,15 @@ class Protocol:
         told = flaw_told(self.net, tree, self.predicate or "", flaw, played)
         return Refuted(dict(zip(self.net.names, flaw.counts)), told)
 
-    def simulate(self, seed: int = 0, until: str = "terminal", changes: int | None = None, **counts: int) -> Run:
+    def simulate(self, seed: int = 0, until: str | int = "terminal", changes: int | None = None, **counts: int) -> Run:
         """One run from so many agents for each variable; helpers are added. Measured, and not proved."""
-        chosen = self._counts(counts)
+        seed, limits = asked.seed(seed), asked.limits(until, changes)
+        chosen = self._assumed(counts)
         value = None
         if self.predicate is not None:
             value = value_at(read_predicate(self.predicate, self.net.names), chosen)
         run, recorder = Simulation(self.net, chosen, seed), Recorder()
-        carry_out(run, Limits(until=Stop(until), changes=changes), value, recorder.watch(run))
+        carry_out(run, limits, value, recorder.watch(run))
         curve = recorder.curve(run, self._loaded.name, "", seed)
         return Run(
             crowd={run.reactions.name(word): k for word, k in run.crowd().items()},
@@ -164,26 +167,25 @@ class Protocol:
         """Many runs, each looked at after every so many meetings per agent, up to its end or so many meetings."""
         from ..simulation.ensembles import ensemble
 
-        if every <= 0 or runs < 1:
-            raise InputFault("the grid of an ensemble has steps above 0, and there is one run at least")
-        chosen = self._counts(counts)
-        made = ensemble(
-            self.net, chosen, seed, runs, every, ENDLESS if meetings is None else meetings, self._loaded.name
-        )
+        every, runs, seed, most = asked.step(every), asked.runs(runs), asked.seed(seed), asked.meetings(meetings)
+        chosen = self._assumed(counts)
+        try:
+            made = ensemble(self.net, chosen, seed, runs, every, most, self._loaded.name)
+        except AskFault as fault:
+            raise InputFault(str(fault)) from None
         by_state = {name: [[row[i] for row in rows] for rows in made.rows] for i, name in enumerate(made.names)}
         return Runs(made.times, by_state, made.agents, made.terminal)
 
     def sweep(self, runs: int = RUNS, seed: int = 0, progress: bool = False, **sizes: int | Iterable[int]) -> Table:
-        """Many runs for each size: `sweep(x=[10, 100, 1000], y=5)`; ranges go in step."""
+        """Many runs for each size: `sweep(x=[10, 100, 1000], y=5)`; ranges go in step. Sizes that the file leaves out
+        by `assume` are passed over."""
         from ..simulation.growth import quantile
 
-        ranges = {name: [size] if isinstance(size, int) else list(size) for name, size in sizes.items()}
-        length = max((len(values) for values in ranges.values()), default=0)
-        if any(len(values) not in (1, length) for values in ranges.values()):
-            raise InputFault("the ranges of a sweep are equally long, or of one size")
+        runs = asked.runs(runs)
+        seed = asked.seed(seed, runs)
+        met = [counts for counts in asked.sizes(sizes) if self._loaded.meets(self._counts(counts))]
         rows: list[dict[str, Any]] = []
-        for i in _told(range(length), progress):
-            counts = {name: values[i if len(values) > 1 else 0] for name, values in ranges.items()}
+        for counts in asked.shown(met, progress):
             made = [self.simulate(self._stream(seed + k, counts), "terminal", None, **counts) for k in range(runs)]
             ends = sorted(float(run.last_change) for run in made if run.terminal)
             figures = {f"{part:.0%} end": quantile(ends, part) for part in (0.25, 0.5, 0.75)} if ends else {}
@@ -193,17 +195,21 @@ class Protocol:
             )
         return Table(rows)
 
-    def _stream(self, seed: int, counts: dict[str, int]) -> int:
+    def _stream(self, seed: int, counts: Size) -> int:
         """The seed with which `bin/pop sweep` runs the same."""
         crowd = crowd_words(self.net, self._counts(counts))
         return seed_of(BY_SIMULATE, crowd, str(seed), mark_of(self._loaded))
 
-    def _counts(self, counts: dict[str, int]) -> tuple[int, ...]:
+    def _counts(self, counts: Size) -> tuple[int, ...]:
         """The counts of all variables; InputFault where they make no crowd."""
         try:
             return counts_of(self.net, [f"{name}={k}" for name, k in counts.items()])
         except AskFault as fault:
             raise InputFault(str(fault)) from None
+
+    def _assumed(self, counts: Size) -> tuple[int, ...]:
+        """The same; InputFault where the file leaves them out by `assume`."""
+        return asked.met(self._loaded, self._counts(counts))
 
     def explain(self) -> str:
         """Layers, trees and facts by names, with the program's line first."""
@@ -225,18 +231,6 @@ class Protocol:
         return f"<pre>{escape(self.text())}</pre>"
 
 
-def _told(items: Sequence[int], progress: bool) -> Iterable[int]:
-    """The items, with a bar by tqdm where that is wanted and there."""
-    if not progress:
-        return items
-    try:
-        from tqdm.auto import tqdm
-    except ImportError:
-        return items
-    bar: Iterable[int] = tqdm(items)
-    return bar
-
-
 def _verdict(line: str) -> Verdict:
     word, _, rest = line.partition(" ")
     certified, stable = word == "certified", word == "stable"
@@ -245,7 +239,7 @@ def _verdict(line: str) -> Verdict:
 
 def load(path: str) -> Protocol:
     """The protocol of a file: `.pop`, a net or a bundle in JSON."""
-    return Protocol(load_path(path))
+    return Protocol(asked.one_file(path))
 
 
 def compile(predicate: str, helpers: bool = True) -> Protocol:
@@ -254,7 +248,7 @@ def compile(predicate: str, helpers: bool = True) -> Protocol:
     Without helpers where `helpers` is false; InputFault where there is none within the limits.
     """
     _ready()
-    form, names = in_form(predicate, None)
+    form, names = asked.predicate(predicate)
     try:
         if helpers:
             made = make_bundle(names, form)

@@ -5,6 +5,8 @@ from dataclasses import dataclass, field
 from html import escape
 from typing import TYPE_CHECKING, Any, Iterator
 
+from .asked import frames
+
 if TYPE_CHECKING:
     from pandas import DataFrame
 
@@ -79,9 +81,7 @@ class Run:
 
     def frame(self) -> DataFrame:
         """The curve as a table of pandas: a row for each time (meetings for each agent), a column for each state."""
-        from pandas import DataFrame as Frame
-
-        return Frame(self.curves, index=self.times)
+        return frames()(self.curves, index=self.times)
 
     def _repr_html_(self) -> str:
         rows = "".join(f"<tr><td>{escape(name)}</td><td>{count:,}</td></tr>" for name, count in self.crowd.items())
@@ -111,11 +111,11 @@ class Runs:
 
     def frame(self) -> DataFrame:
         """A table of pandas: a row for each run and time, a column for each state."""
-        from pandas import DataFrame as Frame
+        frame = frames()
         from pandas import MultiIndex
 
         index = MultiIndex.from_product([range(len(self)), self.times], names=["run", "time"])
-        return Frame({name: [k for run in runs for k in run] for name, runs in self.counts.items()}, index=index)
+        return frame({name: [k for run in runs for k in run] for name, runs in self.counts.items()}, index=index)
 
     def _repr_html_(self) -> str:
         rows = "".join(f"<tr><td>{escape(name)}</td><td>{self.mean(name)[-1]:,.4g}</td></tr>" for name in self.counts)
@@ -133,9 +133,7 @@ class Table:
 
     def frame(self) -> DataFrame:
         """The rows as a table of pandas."""
-        from pandas import DataFrame as Frame
-
-        return Frame(self.rows)
+        return frames()(self.rows)
 
     def __iter__(self) -> Iterator[dict[str, Any]]:
         return iter(self.rows)

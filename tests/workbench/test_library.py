@@ -2,8 +2,9 @@
 from __future__ import annotations
 
 import subprocess
+import sys
 from pathlib import Path
-from typing import Callable
+from typing import Callable, cast
 
 import pytest
 
@@ -13,6 +14,7 @@ from hurleyoak.engine import places, program
 from .conftest import EXAMPLES, TOP, needs_program
 
 MAJORITY = str(EXAMPLES / "majority" / "majority.pop")
+FAMILY = str(EXAMPLES / "families" / "tower.pop")
 EPIDEMIC = "inputs x: I  y: S\nS + I -> I + I\nyes I\ncomputes x >= 1\n"
 
 
@@ -56,6 +58,8 @@ def test_many_runs() -> None:
     assert short.times == [0, 1, 2]
     with pytest.raises(hurleyoak.InputFault, match="above 0"):
         hurleyoak.load(MAJORITY).ensemble(0, x=8)
+    with pytest.raises(hurleyoak.InputFault, match="times of the grid"):
+        hurleyoak.load(MAJORITY).ensemble(1e-9, x=8, y=3)
     pytest.importorskip("pandas")
     assert list(made.frame().columns) == list(made.counts) and len(made.frame()) == 4 * len(made.times)
 
@@ -67,6 +71,76 @@ def test_sweeps() -> None:
     assert len(table) == 2 and "<table>" in table._repr_html_()
     with pytest.raises(hurleyoak.InputFault, match="equally long"):
         hurleyoak.load(MAJORITY).sweep(x=[1, 2], y=[1, 2, 3])
+
+
+def test_a_run_stops_after_meetings() -> None:
+    """As `--until` does: a number of meetings is an end, too."""
+    assert hurleyoak.load(MAJORITY).simulate(until=5, x=30, y=10).meetings == 5
+    assert hurleyoak.load(MAJORITY).simulate(until="agreed", x=30, y=10).output is True
+
+
+@pytest.mark.parametrize(
+    "call, says",
+    [
+        (lambda p: p.simulate(until="never", x=2), "`until` is 'terminal'"),
+        (lambda p: p.simulate(until=-1, x=2), "`until` is a whole number"),
+        (lambda p: p.simulate(seed=-1, x=2), "`seed` is a whole number from 0 to 9223372036854775807"),
+        (lambda p: p.simulate(seed=2**63, x=2), "`seed`"),
+        (lambda p: p.simulate(seed="a", x=2), "`seed`"),
+        (lambda p: p.simulate(changes=-1, x=2), "`changes`"),
+        (lambda p: p.ensemble("often", x=2), "`every`"),
+        (lambda p: p.ensemble(float("nan"), x=2), "`every`"),
+        (lambda p: p.ensemble(1, runs=2.5, x=2), "`runs`"),
+        (lambda p: p.ensemble(1, meetings=-1, x=2), "`meetings`"),
+        (lambda p: p.sweep(runs=0, x=2), "`runs`"),
+        (lambda p: p.sweep(x="10..100*2"), "`x` is a number of agents or a list"),
+        (lambda p: p.sweep(x=2.5), "`x` is a number of agents or a list"),
+    ],
+)
+def test_arguments(call: Callable[[hurleyoak.Protocol], object], says: str) -> None:
+    """What is asked for out of its limits is a fault of the library's own kind, that names the argument."""
+    with pytest.raises(hurleyoak.InputFault) as fault:
+        call(hurleyoak.Protocol.parse(EPIDEMIC))
+    assert says in str(fault.value)
+
+
+def test_what_a_file_assumes() -> None:
+    """As the commands: a run of an input that is left out is refused, and a sweep passes it over."""
+    moves = "A + B -> a + b\nA + b -> A + a\nB + a -> B + b\n"
+    protocol = hurleyoak.Protocol.parse(f"inputs x: A y: B\n{moves}yes A a\ncomputes x > y\nassume x != y\n")
+    with pytest.raises(hurleyoak.InputFault, match="assumes: x - y != 0"):
+        protocol.simulate(x=3, y=3)
+    assert [row["x"] for row in protocol.sweep(runs=2, x=[3, 9], y=3)] == [9]
+
+
+def test_a_family_is_refused() -> None:
+    """It is many protocols, and the fault says how one of them is written."""
+    with pytest.raises(hurleyoak.InputFault, match="a family of 11 protocols: `bin/pop text .* --with c=2`"):
+        hurleyoak.load(FAMILY)
+
+
+def test_frames_ask_for_pandas(monkeypatch: pytest.MonkeyPatch) -> None:
+    """Where it isn't installed, the fault names the package."""
+    monkeypatch.setitem(cast("dict[str, object]", sys.modules), "pandas", None)
+    with pytest.raises(hurleyoak.InputFault, match="apt-get install python3-pandas"):
+        hurleyoak.load(MAJORITY).simulate(x=3, y=1).frame()
+
+
+@needs_program
+@pytest.mark.parametrize(
+    "text, says", [("x -", "expected a variable"), ("x = 1 mod 300", "a modulus is 2 to 200"), ("", "has no variable")]
+)
+def test_compile_says_what_is_wrong(text: str, says: str) -> None:
+    """The sentence too, and not the program's line alone."""
+    with pytest.raises(hurleyoak.InputFault, match=says):
+        hurleyoak.compile(text)
+
+
+@needs_program
+def test_agents_of_a_search() -> None:
+    """Fewer than a crowd has are refused."""
+    with pytest.raises(hurleyoak.InputFault, match="`agents` is a whole number from 2"):
+        hurleyoak.Protocol.parse(EPIDEMIC).refute(agents=1)
 
 
 @needs_program
