@@ -4,6 +4,7 @@ from __future__ import annotations
 from ..proof.bundles import Bundle, LeafProof, Part
 
 CERTIFIED = "certified "
+LAWLESS = " of the net, which has no chances and orders,"
 
 
 def _has_one(part: Part) -> bool:
@@ -16,7 +17,8 @@ def one_layer_told(bundle: Bundle, line: str) -> list[str]:
         return []
     bound = int(line.removeprefix(CERTIFIED))
     times = "" if bound == 1 else f"{bound} "
+    whose = LAWLESS if any(leaf.laws for leaf in bundle.net.leaves) else ""
     return [
         f"each leaf has one layer, so in every run of n agents at most {times}n meetings change anything. "
-        f"Random meetings reach the end within {times}n n (n - 1) on average"
+        f"Random meetings{whose} reach the end within {times}n n (n - 1) on average"
     ]

@@ -65,5 +65,6 @@ def sizes_of(words: Sequence[str]) -> list[dict[str, int]]:
     sizes = [{name: values[at % len(values)] for name, values in known.items()} for at in range(length)]
     for size in sizes:
         if min(size.values()) < 0 or sum(size.values()) > AGENT_LIMIT:
-            raise AskFault(f"the counts {size} are not between 0 and {AGENT_LIMIT:,}")
+            told = " ".join(f"{name}={count}" for name, count in size.items())
+            raise AskFault(f"the counts {told} are not between 0 and {AGENT_LIMIT:,}")
     return sizes

@@ -6,6 +6,8 @@ import subprocess
 import pytest
 
 from hurleyoak.show.onelayer import one_layer_told
+from hurleyoak.text.files import load
+from hurleyoak.text.loaded import strict_bundle
 
 from .conftest import EXAMPLES, TOP, bundle_at, needs_program
 
@@ -26,6 +28,14 @@ def test_one_layer(name: str, line: str, says: str) -> None:
     """With the bound, which is left out where it is 1."""
     told = one_layer_told(bundle_at(EXAMPLES / name / "bundle.json"), line)
     assert len(told) == 1 and told[0].startswith(ONE + says)
+
+
+def test_chances_are_no_part_of_it() -> None:
+    """A net has no chances: where the file has some, the bound is not that of its own meetings."""
+    text = (EXAMPLES / "epidemic" / "epidemic.pop").read_text()
+    loaded = load(text.replace("-> I + I\n", "-> I + I @ 0.001\n", 1), "it")
+    told = one_layer_told(strict_bundle(loaded), "certified 1")
+    assert "Random meetings of the net, which has no chances and orders, reach the end" in told[0]
 
 
 def test_nothing_is_told_of_others() -> None:

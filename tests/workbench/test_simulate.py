@@ -289,6 +289,7 @@ def test_the_command(tmp_path: Path) -> None:
         (["x=5", "--predicate", "x >"], program.REFUSED, "expected a variable or a number"),
         (["x=5", "--trace", "/nowhere/file"], program.WRITE_FAULT, "/nowhere/file"),
         (["x=5", "--odd"], program.USAGE, "`--odd`"),
+        (["x=5", "--runs", "3"], program.USAGE, "`--runs` goes with `--every`"),
     ],
 )
 def test_faults(words: list[str], status: int, told: str) -> None:

@@ -80,6 +80,12 @@ def test_no_sizes(words: list[str]) -> None:
         sizes_of(words)
 
 
+def test_counts_below_zero_are_told_as_they_are_written() -> None:
+    """A size as words, and not as Python shows it."""
+    with pytest.raises(AskFault, match="the counts x=1 y=-1 are not between 0 and 1,000,000,000"):
+        sizes_of(["x=1", "y=x-2"])
+
+
 def test_a_row_counts_undecided_and_wrong_runs() -> None:
     results = [
         Result("a", 9, 50, 40, 30, True),

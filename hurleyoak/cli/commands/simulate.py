@@ -20,6 +20,7 @@ from ...statuses import DONE, UNDECIDED
 from ...writing import write_text
 from . import warn
 from ..usage import UsageFault
+from ..table.behaviour import ENSEMBLE_RUNS
 from ..table.reading import Given, takes
 from .inputs import load_given
 from ...wholes import is_whole
@@ -56,7 +57,8 @@ def many(given: Given, loaded: Loaded, counts: tuple[int, ...], limits: Limits, 
     from ...simulation.ensembles import ensemble
     from ...simulation.ensembles import told as told_of
 
-    every, runs, trace = given.number("--every"), given.whole("--runs"), given.text("--trace")
+    runs = given.whole("--runs") if given.has("--runs") else ENSEMBLE_RUNS
+    every, trace = given.number("--every"), given.text("--trace")
     if every <= 0 or limits.until == AGREED or limits.changes is not None:
         raise UsageFault(
             "`--every` is followed by meetings per agent above 0; it goes with `--until terminal` or a number of"
@@ -85,6 +87,8 @@ def run(given: Given) -> int:
     files, count_words = split_words(given.words)
     if len(files) > 1:
         raise UsageFault(takes(given.command))
+    if given.has("--runs") and not given.has("--every"):
+        raise UsageFault("`--runs` goes with `--every`, which looks at many runs; without it there is one run")
     seed, trace, predicate = given.whole("--seed"), given.text("--trace"), given.text("--predicate")
     limits = _limits(given)
     loaded = load_given(given, files[0] if files else STANDARD_INPUT)

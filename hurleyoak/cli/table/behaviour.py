@@ -7,6 +7,7 @@ from .shape import Command, Kind, Option, choice, file, flag, number, text, whol
 
 RUN_LIMIT, PLACE_LIMIT = 100_000, 1_000
 ENSEMBLE_LIMIT, CHUNK_LIMIT = 10_000, 1_000
+ENSEMBLE_RUNS = 20
 PORT_LIMIT = 65_535
 WORDS_LIMIT = 99
 
@@ -32,7 +33,7 @@ BEHAVIOUR = (
             text("--predicate", "compares the output with its value"),
             file("--trace", "keeps the crowd over time, for `pop plot`"),
             number("--every", "makes many runs, and looks at each after every N meetings per agent", None),
-            whole("--runs", "how many runs `--every` makes", 20, 1, ENSEMBLE_LIMIT),
+            whole("--runs", f"how many runs `--every` makes ({ENSEMBLE_RUNS})", None, 1, ENSEMBLE_LIMIT),
             MEMBER,
         ),
         module="simulate",
