@@ -8,13 +8,12 @@ from typing import Any
 
 from ..text.cautions import cautions, slow_pairs
 from ..faults import InputFault
-from ..text.files import ASSUMES, STANDARD_INPUT, load_pop, read_text
+from ..text.files import ASSUMES, STANDARD_INPUT, load, read_text
 from ..text.given import READ_AS
 from ..text.loaded import strict_bundle
 from ..text.jsontext import DECODER
 from ..protocol.nets import VARIABLE_LIMIT, FormatFault, compact, is_variable_name, net_of
 from ..proof.bundles import bundle_of
-from ..text.scanner import TextFault
 from ..text.relaxed import in_form
 from .request import TAKES_PREDICATE, Request, WordFault
 
@@ -110,10 +109,7 @@ def _protocol(request: Request, text: str, asked: Asked) -> list[str]:
         asked.notes += [f"{asked.file}: warning: {told}" for told in _cautions(value, request.command)]
         asked.add(line, asked.file)
         return behind
-    try:
-        loaded = load_pop(text, asked.file)
-    except TextFault as fault:
-        raise fault.of_input(asked.file) from None
+    loaded = load(text, asked.file)
     asked.notes += [f"{asked.file}: {'' if READ_AS in told else 'warning: '}{told}" for told in loaded.warnings]
     if request.command == PLAYS:
         asked.add(compact(loaded.net.value()), asked.file)
@@ -199,10 +195,7 @@ def _predicate_of(text: str, asked: Asked) -> tuple[str, list[str] | None]:
         raise InputFault(f"{asked.file} has no predicate: a bundle has one, a net has none")
     if len(text.strip().splitlines()) == 1 and any(c in text for c in RELATION_SIGNS):
         return text.strip(), None
-    try:
-        loaded = load_pop(text, asked.file)
-    except TextFault as fault:
-        raise fault.of_input(asked.file) from None
+    loaded = load(text, asked.file)
     if loaded.predicate is None:
         raise InputFault(f"{asked.file} has no predicate: add a line `computes PREDICATE`")
     return loaded.predicate, list(loaded.net.names)

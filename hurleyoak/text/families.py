@@ -215,6 +215,16 @@ def parameters(text: str) -> dict[str, range]:
     return out
 
 
+def of_family(fault: TextFault, text: str) -> TextFault:
+    """A fault of a family that is read as one protocol: it says how a member is chosen. Others stay as they are."""
+    for number, line in enumerate(text.split("\n"), start=1):
+        found = _FAMILY.fullmatch(line.split("#", 1)[0].strip())
+        if found is not None:
+            told = f"this is a family of protocols: `pop text FILE --with {found[1]}=..` writes one of them"
+            return TextFault(number, 1, told, line)
+    return fault
+
+
 def members(text: str) -> list[dict[str, int]]:
     """The values of the parameters for each member, the first parameter slowest."""
     found = parameters(text)

@@ -9,6 +9,7 @@ from ..proof.names import Names
 from ..protocol.nets import FormatFault, net_of
 from ..protocol.predicatereader import read_predicate
 from .cautions import cautions
+from .families import of_family
 from .given import pop_predicates, with_predicate
 from .jsonvalue import format_fault, json_value
 from .loaded import SHAPES, Loaded, LoadedBundle, LoadedNet, Written
@@ -85,7 +86,7 @@ def load(text: str, name: str) -> Loaded:
     try:
         return load_pop(pop_text(text) if name.endswith(ENDING) else text, name)
     except TextFault as fault:
-        raise fault.of_input(name) from None
+        raise of_family(fault, text).of_input(name) from None
 
 
 def load_path(path: str) -> Loaded:

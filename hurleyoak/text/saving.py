@@ -6,6 +6,8 @@ from .files import load_pop
 from .loaded import strict_bundle
 from .popsections import FILE_WORDS, LEAF_WORDS
 from ..proof.bundles import Bundle
+from ..protocol.predicatereader import read_predicate
+from ..protocol.predicates import Predicate
 from .scanner import WORD, Line, TextFault, lines_of, without_comment
 from .writer import head, proof_lines
 
@@ -67,11 +69,21 @@ def with_proof(text: str, bundle: Bundle) -> str:
         again = strict_bundle(load_pop(made, "the file"))
     except TextFault as fault:
         raise fault.of_input("the file with the proof") from None
+    if _predicates(again) != _predicates(bundle):
+        raise InputFault(
+            f"the file computes `{again.pred}`, and the proof is of `{bundle.pred}`: change the file first, or write"
+            " another one by `-o FILE`"
+        )
     if again.net != bundle.net or _trees(again) != _trees(bundle):
         raise InputFault(
             "the proof can't be put into this file: it reads back as another one; `-o FILE` writes a file of its own"
         )
     return made
+
+
+def _predicates(bundle: Bundle) -> list[Predicate]:
+    """The whole predicate and those of the leaves."""
+    return [read_predicate(text, bundle.net.names) for text in (bundle.pred, *(part.pred for part in bundle.proof))]
 
 
 def _trees(bundle: Bundle) -> list[object]:

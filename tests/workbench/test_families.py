@@ -55,6 +55,30 @@ def test_a_sweep_goes_over_all_members(tmp_path: Path) -> None:
     assert "majority t=0" in table and "majority t=1" in table
 
 
+@pytest.mark.parametrize("words", [("check",), ("draw", "--text"), ("play", "x=3"), ("explain",), ("bundle",)], ids=str)
+def test_commands_of_one_protocol_say_how_a_member_is_written(words: tuple[str, ...]) -> None:
+    """A family isn't read as a move that lacks its `+`."""
+    from .test_commands import pop
+
+    run = pop(words[0], str(EXAMPLES / "families" / "flock.pop"), *words[1:])
+    assert run.returncode == 2 and "this is a family of protocols: `pop text FILE --with" in run.stderr
+
+
+@needs_program
+def test_find_of_a_family_writes_its_table(tmp_path: Path) -> None:
+    """`-o` as everywhere; what is for one protocol is refused, and not passed over."""
+    from .test_commands import pop
+
+    pytest.importorskip("scipy")
+    file, out = tmp_path / "family.pop", tmp_path / "table"
+    file.write_text("family c in 1..2\ninputs x: I y: S\nS + I -> I + I\nyes I\ncomputes x >= 1\n")
+    run = pop("find", str(file), "-o", str(out))
+    assert run.returncode == 0 and run.stdout == ""
+    assert [line.split()[0] for line in out.read_text().splitlines()] == ["member", "c=1", "c=2"]
+    refused = pop("find", str(file), "--save")
+    assert refused.returncode == 1 and "`--save` is for one protocol: `--with c=1`" in refused.stderr
+
+
 def test_members() -> None:
     """One for each value, the first parameter slowest."""
     assert members("family m in 2..3\nfamily r in 0..1\n") == [

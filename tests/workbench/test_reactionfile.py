@@ -10,7 +10,7 @@ from hurleyoak.protocol.reactions import leaf_outcomes
 from hurleyoak.text.files import load
 from hurleyoak.text.reactionfile import network_text
 
-from .conftest import EXAMPLES
+from .conftest import EXAMPLES, needs_program
 from .test_commands import pop
 
 
@@ -64,3 +64,15 @@ def test_commands(tmp_path: Path) -> None:
     file.write_text(made.stdout)
     assert pop("net", str(file)).returncode == 0
     assert "I 40" in pop("simulate", str(file), "x=1", "y=39").stdout
+    saved = pop("find", str(file), "x >= 1", "--save")
+    assert saved.returncode == 1 and "a reaction network" in saved.stderr
+
+
+@needs_program
+def test_commands_of_the_program(tmp_path: Path) -> None:
+    """They read a network as the others do."""
+    file = tmp_path / "network.crn"
+    file.write_text("S + I -> 2I : 0.5\ninputs x: I y: S\nyes I\ncomputes x >= 1\n")
+    assert pop("play", str(file), "x=1", "y=1", "0,1").stdout == "I 2\nterminal\n"
+    assert pop("eval", str(file), "x=1").stdout == "true\n"
+    assert "this leaf has no proof" in pop("check", str(file)).stderr

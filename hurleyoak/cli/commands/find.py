@@ -8,6 +8,7 @@ from typing import TYPE_CHECKING, Callable, TextIO
 from ...engine import program
 from ...faults import InputFault
 from ...text.files import ASSUMES, STANDARD_INPUT, read_text
+from ...text.reactionfile import ENDING
 from ...text.loaded import Loaded, LoadedBundle, strict_bundle
 from ...text.cautions import slow_pairs
 from ...proof.bundles import Bundle
@@ -104,9 +105,10 @@ def savable(given: Given) -> str:
     if not given.words or given.path == STANDARD_INPUT:
         raise UsageFault("`--save` puts the proof into the `.pop` file that is named")
     text = read_text(given.path)
-    if text.lstrip()[:1] in ("{", "["):
+    kind = "JSON" if text.lstrip()[:1] in ("{", "[") else "a reaction network" if given.path.endswith(ENDING) else ""
+    if kind:
         raise UsageFault(
-            "`--save` puts the proof into a `.pop` file, and this one is JSON: `-o FILE` writes a file of its own"
+            f"`--save` puts the proof into a `.pop` file, and this one is {kind}: `-o FILE` writes a file of its own"
         )
     return text
 
