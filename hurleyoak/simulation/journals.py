@@ -14,6 +14,7 @@ from ..protocol.reactions import Reactions, Word
 
 _MEETING = re.compile(r"([0-9]+) ([0-9]+) ([0-9]+)( \*)?")
 _RUN = re.compile(r"(run|watch) workers [0-9]+ shards [0-9]+ turns [0-9]+ seed ([0-9]+)")
+VERDICT = "verdict "  # the last line where the crowd is terminal; a journal that was cut off has another
 RUN_AGENTS = 65_536  # more agents the program doesn't run
 
 
@@ -116,7 +117,7 @@ def read_journal(text: str, name: str) -> Curve:
     recorder.next = 0
     recorder.note(crowd.meetings, crowd.crowd)
     names = {word for found in recorder.crowds for word in found}
-    terminal = not lines[-1].startswith(("undecided", "settled"))
+    terminal = lines[-1].startswith(VERDICT)
     curve = Curve(
         title="",
         crowd=crowd_words(net, counts),

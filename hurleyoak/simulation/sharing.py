@@ -119,8 +119,8 @@ def living(path: str, known: set[str]) -> str:
     """The hosts of a file that answer, one on a line; those that don't are told once."""
     try:
         text = Path(path).read_text(encoding="utf-8", errors="surrogateescape")
-    except OSError:
-        raise InputFault(f"{path}: it has none of the hosts that `--hosts` is to name") from None
+    except OSError as error:
+        raise InputFault(f"{path}: {error.strerror}; `--hosts` names a file with hosts") from None
     lines = [line.strip() for line in text.split("\n") if line.strip() and not line.strip().startswith("#")]
     asked = {
         line: subprocess.Popen(

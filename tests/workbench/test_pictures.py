@@ -109,6 +109,7 @@ def test_a_journal_has_the_curve_that_the_program_tells() -> None:
     end = dict(line.rsplit(" ", 1) for line in lines[lines.index("end") + 1 : -1])
     assert {name: str(k) for name, k in zip(curve.names, curve.rows[-1]) if k} == end
     assert (curve.crowd, curve.seed, curve.source) == ("x=30 y=10", "2", "run")
+    assert curve.terminal and not read_journal("\n".join(lines[: lines.index("end")]), "cut off").terminal
     marked = text.replace(" *", "", 1)
     with pytest.raises(InputFault, match="mark says otherwise"):
         read_journal(marked, "journal")

@@ -251,7 +251,7 @@ def test_jobs_are_listed_in_chunks() -> None:
         ([EPIDEMIC, "x=5", "--gather", "/nowhere"], program.REFUSED, "/nowhere"),
         (["--job"], program.USAGE, "jobs"),
         (["--job", "a b"], program.USAGE, "a job is done by simulate or by run"),
-        ([EPIDEMIC, "x=5", "--hosts", "/nowhere", "--jobs", "2"], program.REFUSED, "none of the"),
+        ([EPIDEMIC, "x=5", "--hosts", "/nowhere", "--jobs", "2"], program.REFUSED, "/nowhere: No such file"),
     ],
 )
 def test_faults(words: list[str], status: int, told: str) -> None:
