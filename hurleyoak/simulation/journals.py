@@ -2,6 +2,7 @@
 from __future__ import annotations
 
 import re
+from collections import Counter
 from typing import Sequence
 
 from ..faults import InputFault
@@ -15,6 +16,7 @@ from ..protocol.reactions import Reactions, Word
 _MEETING = re.compile(r"([0-9]+) ([0-9]+) ([0-9]+)( \*)?")
 _RUN = re.compile(r"(run|watch) workers [0-9]+ shards [0-9]+ turns [0-9]+ seed ([0-9]+)")
 VERDICT = "verdict "  # the last line where the crowd is terminal; a journal that was cut off has another
+SETTLED = "settled "  # the last line where the outputs stay; the crowd may be terminal
 RUN_AGENTS = 65_536  # more agents the program doesn't run
 
 
@@ -63,6 +65,12 @@ class Agents:
         for word in self.words:
             out[word] = out.get(word, 0) + 1
         return {self.reactions.name(word): k for word, k in sorted(out.items())}
+
+    def is_terminal(self) -> bool:
+        """Whether no two of the agents react."""
+        count = Counter(self.words)
+        pairs = ((p, q) for p in count for q in count if p != q or count[p] > 1)
+        return all(self.reactions.after(p, q) is None for p, q in pairs)
 
     def outputs(self, names: Sequence[str]) -> dict[str, bool]:
         """What words output, by their names."""
@@ -117,7 +125,7 @@ def read_journal(text: str, name: str) -> Curve:
     recorder.next = 0
     recorder.note(crowd.meetings, crowd.crowd)
     names = {word for found in recorder.crowds for word in found}
-    terminal = lines[-1].startswith(VERDICT)
+    terminal = lines[-1].startswith(VERDICT) or (lines[-1].startswith(SETTLED) and crowd.is_terminal())
     curve = Curve(
         title="",
         crowd=crowd_words(net, counts),

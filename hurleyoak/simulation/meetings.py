@@ -100,16 +100,7 @@ def meetings_curve(text: str, name: str) -> Curve:
         meetings=crowd.meetings,
         last_change=crowd.last_change,
         since=crowd.since,
-        terminal=_is_terminal(crowd),
+        terminal=crowd.is_terminal(),
         source="meetings",
     )
     return filled(curve, recorder.times, recorder.crowds, crowd.outputs(names))
-
-
-def _is_terminal(crowd: Agents) -> bool:
-    """Whether no two of the agents react."""
-    count: dict[tuple[int, ...], int] = {}
-    for word in crowd.words:
-        count[word] = count.get(word, 0) + 1
-    pairs = ((p, q) for p in count for q in count if p != q or count[p] > 1)
-    return all(crowd.reactions.after(p, q) is None for p, q in pairs)
