@@ -10,6 +10,7 @@ pub mod ProofLimits
 pub mod StableProof
 pub mod Combination
 pub mod Ends
+pub mod FirstEntry
 pub mod GoalEnds
 pub mod Parts
 pub mod WeightedSums

@@ -8,6 +8,7 @@ use Rattle.cert_base.specs.declared.fact.Term.{Term}
 use Rattle.cert_base.specs.declared.layer.Layer.{Layer}
 use Rattle.cert_base.specs.declared.node.Node.{Node}
 use Rattle.cert_base.specs.declared.node.Node.TheVariants.{Linear, Residue, Split, Present, Twin, Trap, Siphon, Open}
+use Rattle.cert_base.specs.declared.node.Node.TheVariants.{First}
 use Rattle.cert_base.specs.declared.proof.Proof.{Proof}
 use Rattle.cert_base.specs.declared.proof.LeafProof.{LeafProof}
 use Rattle.cert_base.specs.declared.proof.Goal.{Goal}
@@ -41,6 +42,7 @@ IsNodeWithin (Twin p) = p < STATE_INDEX_COUNT
 IsNodeWithin (Trap set) = IsSetWithin set
 IsNodeWithin (Siphon set) = IsSetWithin set
 IsNodeWithin (Open f) = f < INDEX_COUNT
+IsNodeWithin (First set) = IsSetWithin set
 
 abbrev pub AreNodesWithin : List Node → Type 0
 AreNodesWithin nodes = (length nodes ≤ NODE_LIMIT) × All IsNodeWithin nodes

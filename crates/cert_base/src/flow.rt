@@ -17,7 +17,7 @@ use pop_net::{Leaf, Move};
 use std::alloc::Global;
 
 /// The flow fact of each state, in their order.
-pub(crate) fn flow_facts(alloc: Global, leaf: &Leaf) -> Result<Vec<Fact>, NoMemory>
+pub fn flow_facts(alloc: Global, leaf: &Leaf) -> Result<Vec<Fact>, NoMemory>
     ensures facts { IfOk result (λ facts. facts.items ≡ map (flow leaf.now) (states_of leaf.now)) }
     ensures formed { IsLeaf leaf.now }
 {

@@ -25,6 +25,7 @@ mod variables;
 pub use base::base_facts;
 pub use combination::net_pred_is;
 pub use fact::{Fact, Row, Term, only};
+pub use flow::flow_facts;
 pub use law::flow_law;
 pub use layer::Layer;
 pub use limits::{

@@ -23,4 +23,6 @@ pub enum Node {
     Siphon(List<u16>),
     /// What the fact with this number says of a predicate's parts.
     Open(u32),
+    /// A move enters the states, which nobody was in before; or somebody started in them; or nobody was ever in them.
+    First(List<u16>),
 }
