@@ -6,10 +6,12 @@ ghost use Rattle.pair_workers.specs.OneRun.{IsOnlyRun};
 ghost use Rattle.pair_workers.specs.Ends.{AreFirstPickers, CanMakeRun, IsRunFrom};
 
 use crate::alone::{ROUND_TURNS, RunEnd};
+use crate::context::RoundContext;
 use crate::ends::{end_of, goes_on};
 use crate::picker::Picker;
 use crate::round::next_round;
 use crate::round_end::RoundEnd;
+use crate::round_start::RoundStart;
 use agent_field::Layout;
 use pop_crowd::Crowd;
 use pop_io::{Gate, List, NoMemory};
@@ -55,20 +57,16 @@ pub fn run_all<R: Threads + Wait + Sync, G: Gate>(
     let mut left = spec.turns;
     let mut layout = Layout::new(alloc);
     let table = PairTable::new(alloc, net)?;
+    let run = RoundContext { net, spec, gate };
     let mut last = None;
     'rounds: while goes_on(alloc, &table, &crowd, left, &mut last)? {
         let turns = ROUND_TURNS.min(left);
-        let played = next_round(
-            rt,
-            alloc,
-            net,
+        let start = RoundStart {
             crowd,
-            spec,
             pickers,
             turns,
-            &mut layout,
-            gate,
-        )?;
+        };
+        let played = next_round(rt, alloc, &run, start, &mut layout)?;
         crowd = played.crowd;
         pickers = played.pickers;
         rounds.push(List::from_vec(played.meetings))?;

@@ -5,6 +5,7 @@
 
 mod all;
 mod alone;
+mod context;
 mod divisor;
 mod ends;
 mod examples;
@@ -12,6 +13,7 @@ mod meet;
 mod picker;
 mod round;
 mod round_end;
+mod round_start;
 mod run_loop;
 mod seats;
 mod signals;
@@ -19,12 +21,14 @@ mod work;
 
 pub use all::{first_pickers, run_all};
 pub use alone::{End, KeptRounds, ROUND_TURNS, RunEnd, play_round, run_alone};
+pub use context::{RoundContext, Shift};
 pub use ends::{end_of, goes_on};
 pub use examples::{pick_examples, run_examples};
 pub use meet::meet_next;
 pub use picker::Picker;
 pub use round::{next_round, run_round};
 pub use round_end::RoundEnd;
+pub use round_start::RoundStart;
 pub use run_loop::{RoundSink, run_into};
 pub use seats::{meetings_made, open_round, take_in};
 pub use signals::Signals;

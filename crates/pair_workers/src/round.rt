@@ -8,8 +8,10 @@ ghost use Rattle.pair_workers.specs.Turns.{CanMakeRound, IsRoundFrom, IsWholeRou
 ghost use Rattle.pair_workers.specs.Work.{MayWork, HasWorked, HaveWorked, agents_of_field};
 
 use crate::alone::play_round;
+use crate::context::{RoundContext, Shift};
 use crate::picker::Picker;
 use crate::round_end::RoundEnd;
+use crate::round_start::RoundStart;
 use crate::seats::{open_round, take_in};
 use crate::signals::Signals;
 use crate::work::{Worker, work, work_all};
@@ -28,25 +30,25 @@ fn work_beside<R: Threads + Wait + Sync, G: Gate>(
     field: &Field,
     first: &mut Worker,
     others: &mut [Worker],
-    turns: u64,
-    signals: &Signals,
-    gate: &G,
+    shift: &Shift<G>,
 )
     requires agents { IsCrowdSize (agents_of_field field.now) }
-    requires may { MayWork field.now turns first.old × All (MayWork field.now turns) others.old }
-    ensures first { HasWorked field.now turns signals.now.observed first.old first.new }
-    ensures others { HaveWorked field.now turns signals.now.observed others.old others.new }
+    requires may { MayWork field.now shift.now.turns first.old × All (MayWork field.now shift.now.turns) others.old }
+    ensures first { HasWorked field.now shift.now.turns shift.now.signals.now.observed first.old first.new }
+    ensures others { HaveWorked field.now shift.now.turns shift.now.signals.now.observed others.old others.new }
 {
     join_mut(
         rt,
         &mut ||
-            requires { IsCrowdSize (agents_of_field field.now) × MayWork field.now turns first.now }
-            ensures { HasWorked field.entry.now turns signals.entry.now.observed first.entry.now first.exit.now }
-        { work(rt, field, first, turns, signals, gate) },
+            requires { IsCrowdSize (agents_of_field field.now) × MayWork field.now shift.now.turns first.now }
+            ensures { HasWorked field.entry.now shift.entry.now.turns shift.entry.now.signals.now.observed
+                first.entry.now first.exit.now }
+        { work(rt, field, first, shift) },
         &mut ||
-            requires { IsCrowdSize (agents_of_field field.now) × All (MayWork field.now turns) others.now }
-            ensures { HaveWorked field.entry.now turns signals.entry.now.observed others.entry.now others.exit.now }
-        { work_all(rt, field, others, turns, signals, gate) },
+            requires { IsCrowdSize (agents_of_field field.now) × All (MayWork field.now shift.now.turns) others.now }
+            ensures { HaveWorked field.entry.now shift.entry.now.turns shift.entry.now.signals.now.observed
+                others.entry.now others.exit.now }
+        { work_all(rt, field, others, shift) },
     );
 }
 
@@ -54,44 +56,45 @@ fn work_beside<R: Threads + Wait + Sync, G: Gate>(
 fn field_round<R: Threads + Wait + Sync, G: Gate>(
     rt: &R,
     alloc: Global,
-    net: &Net,
-    crowd: Crowd,
-    spec: &RunSpec,
-    pickers: Vec<Picker>,
-    turns: u64,
+    run: &RoundContext<G>,
+    start: RoundStart,
     layout: &mut Layout,
-    gate: &G,
 ) -> Result<RoundEnd, NoMemory>
-    requires round { CanMakeRound net.now crowd spec.now.workers turns pickers.items }
-    requires limits { IsWithinLimits spec.now }
-    requires serves { Serves layout.old crowd spec.now.shards }
-    ensures round { IfOk result (IsWholeRound net.now crowd spec.now.workers turns pickers.items) }
-    ensures serves { IfOk result (λ r. Serves layout.new r.crowd spec.now.shards) }
+    requires round { CanMakeRound run.now.net.now start.crowd run.now.spec.now.workers start.turns start.pickers.items }
+    requires serves { Serves layout.old start.crowd run.now.spec.now.shards }
+    ensures round { IfOk result
+        (IsWholeRound run.now.net.now start.crowd run.now.spec.now.workers start.turns start.pickers.items) }
+    ensures serves { IfOk result (λ r. Serves layout.new r.crowd run.now.spec.now.shards) }
 {
-    let mut rest = pickers;
-    let picker = rest.remove(0);
-    let (field, mut seat, mut others) = open_round(
-        rt,
-        alloc,
-        net,
+    let RoundStart {
         crowd,
-        spec.shards,
-        rest,
+        mut pickers,
         turns,
-        layout,
-    )?;
+    } = start;
+    let picker = pickers.remove(0);
+    let others = RoundStart {
+        crowd,
+        pickers,
+        turns,
+    };
+    let (field, mut seat, mut others) =
+        open_round(rt, alloc, run.net, run.spec.shards, others, layout)?;
     seat.reserve(turns)?;
     let mut first = Worker { seat, picker };
     let signals = Signals::new(false);
-    let workers = others.as_mut_slice();
-    work_beside(rt, &field, &mut first, workers, turns, &signals, gate);
+    let shift = Shift {
+        turns,
+        signals: &signals,
+        gate: run.gate,
+    };
+    work_beside(rt, &field, &mut first, others.as_mut_slice(), &shift);
     let Worker { seat, picker } = first;
     let mut moved = Vec::new(alloc);
     moved.push(picker)?;
     let (whole, pickers) = take_in(&field, seat, others, moved)?;
     let round = field.close_on(alloc, whole, layout)?;
     Ok(RoundEnd {
-        crowd: Crowd::of_words(net, round.words),
+        crowd: Crowd::of_words(run.net, round.words),
         pickers,
         meetings: round.meetings.into_vec(),
     })
@@ -101,16 +104,17 @@ fn field_round<R: Threads + Wait + Sync, G: Gate>(
 fn plain_round<G: Gate>(
     alloc: Global,
     net: &Net,
-    crowd: Crowd,
-    pickers: Vec<Picker>,
-    turns: u64,
+    start: RoundStart,
     gate: &G,
 ) -> Result<RoundEnd, NoMemory>
-    requires { CanMakeRound net.now crowd 1 turns pickers.items }
-    ensures { IfOk result (IsWholeRound net.now crowd 1 turns pickers.items) }
+    requires { CanMakeRound net.now start.crowd 1 start.turns start.pickers.items }
+    ensures { IfOk result (IsWholeRound net.now start.crowd 1 start.turns start.pickers.items) }
 {
-    let mut crowd = crowd;
-    let mut pickers = pickers;
+    let RoundStart {
+        mut crowd,
+        mut pickers,
+        turns,
+    } = start;
     let meetings = play_round(alloc, net, &mut crowd, &mut pickers[0], turns, gate)?;
     Ok(RoundEnd {
         crowd,
@@ -123,25 +127,21 @@ fn plain_round<G: Gate>(
 pub fn next_round<R: Threads + Wait + Sync, G: Gate>(
     rt: &R,
     alloc: Global,
-    net: &Net,
-    crowd: Crowd,
-    spec: &RunSpec,
-    pickers: Vec<Picker>,
-    turns: u64,
+    run: &RoundContext<G>,
+    start: RoundStart,
     layout: &mut Layout,
-    gate: &G,
 ) -> Result<RoundEnd, NoMemory>
-    requires round { CanMakeRound net.now crowd spec.now.workers turns pickers.items }
-    requires limits { IsWithinLimits spec.now }
-    requires serves { Serves layout.old crowd spec.now.shards }
-    ensures round { IfOk result (IsWholeRound net.now crowd spec.now.workers turns pickers.items) }
-    ensures serves { IfOk result (λ r. Serves layout.new r.crowd spec.now.shards) }
+    requires round { CanMakeRound run.now.net.now start.crowd run.now.spec.now.workers start.turns start.pickers.items }
+    requires serves { Serves layout.old start.crowd run.now.spec.now.shards }
+    ensures round { IfOk result
+        (IsWholeRound run.now.net.now start.crowd run.now.spec.now.workers start.turns start.pickers.items) }
+    ensures serves { IfOk result (λ r. Serves layout.new r.crowd run.now.spec.now.shards) }
 {
-    if spec.workers == 1 {
+    if run.spec.workers == 1 {
         layout.clear();
-        return plain_round(alloc, net, crowd, pickers, turns, gate);
+        return plain_round(alloc, run.net, start, run.gate);
     }
-    field_round(rt, alloc, net, crowd, spec, pickers, turns, layout, gate)
+    field_round(rt, alloc, run, start, layout)
 }
 
 /// Copies of the pickers, which make the same picks.
@@ -173,14 +173,18 @@ pub fn run_round<R: Threads + Wait + Sync, G: Gate>(
     ensures { MatchResult result (IsRoundFrom net.now crowd.now spec.now.workers turns pickers.old pickers.new)
         (λ _. pickers.new ≡ pickers.old) }
 {
-    let lent = copies(alloc, pickers)?;
-    let start = crowd.copy(alloc)?;
+    let start = RoundStart {
+        pickers: copies(alloc, pickers)?,
+        crowd: crowd.copy(alloc)?,
+        turns,
+    };
+    let run = RoundContext { net, spec, gate };
     let mut layout = Layout::new(alloc);
     let RoundEnd {
         crowd: end,
         pickers: mut moved,
         meetings,
-    } = next_round(rt, alloc, net, start, spec, lent, turns, &mut layout, gate)?;
+    } = next_round(rt, alloc, &run, start, &mut layout)?;
     pickers.swap_with_slice(moved.as_mut_slice());
     Ok(Round {
         words: end.into_words(),

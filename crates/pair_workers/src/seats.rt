@@ -8,9 +8,9 @@ ghost use Rattle.pair_workers.specs.Work.{IsFirstSeat, HasSeated, HasDealt, HasA
 
 use crate::alone::ROUND_TURNS;
 use crate::picker::Picker;
+use crate::round_start::RoundStart;
 use crate::work::Worker;
 use agent_field::{Field, FieldSeat, Layout, SEAT_LIMIT};
-use pop_crowd::Crowd;
 use pop_io::{NoMemory, SHARD_LIMIT};
 use pop_net::Net;
 use std::alloc::Global;
@@ -42,19 +42,23 @@ pub fn open_round<'n, R: Wait>(
     rt: &R,
     alloc: Global,
     net: &'n Net,
-    crowd: Crowd,
     shards: u32,
-    pickers: Vec<Picker>,
-    turns: u64,
+    start: RoundStart,
     layout: &mut Layout,
 ) -> Result<(Field<'n>, FieldSeat, Vec<Worker>), NoMemory>
-    requires valid { AreValid net.now crowd }
+    requires valid { AreValid net.now start.crowd }
     requires shards { (1 ≤ shards) × (shards ≤ SHARD_LIMIT) }
-    requires few { (length pickers.items < SEAT_LIMIT) × (turns ≤ ROUND_TURNS) }
-    requires serves { Serves layout.old crowd shards }
-    ensures opened { IfOk result (λ r. HasOpened net.now crowd shards turns pickers.items r.0 r.1 r.2.items) }
-    ensures serves { OnOk result (Serves layout.new crowd shards) }
+    requires few { (length start.pickers.items < SEAT_LIMIT) × (start.turns ≤ ROUND_TURNS) }
+    requires serves { Serves layout.old start.crowd shards }
+    ensures opened { IfOk result
+        (λ r. HasOpened net.now start.crowd shards start.turns start.pickers.items r.0 r.1 r.2.items) }
+    ensures serves { OnOk result (Serves layout.new start.crowd shards) }
 {
+    let RoundStart {
+        crowd,
+        pickers,
+        turns,
+    } = start;
     let seats = pickers.len() as u16 + 1;
     let words = crowd.into_words();
     let (field, mut seat) = Field::open_on(rt, alloc, net, words, shards, seats, layout)?;

@@ -4,8 +4,8 @@ ghost use Rattle.std.specs.Prelude.{All};
 ghost use Rattle.pair_workers.specs.CrowdSize.{IsCrowdSize};
 ghost use Rattle.pair_workers.specs.Work.{MayWork, HasWorked, HaveWorked, agents_of_field};
 
+use crate::context::Shift;
 use crate::picker::Picker;
-use crate::signals::Signals;
 use agent_field::{Field, FieldSeat};
 use pop_io::Gate;
 use std::sync::Wait;
@@ -24,23 +24,23 @@ pub(crate) fn work<R: Wait, G: Gate>(
     rt: &R,
     field: &Field,
     worker: &mut Worker,
-    turns: u64,
-    signals: &Signals,
-    gate: &G,
+    shift: &Shift<G>,
 )
     requires agents { IsCrowdSize (agents_of_field field.now) }
-    requires may { MayWork field.now turns worker.old }
-    ensures { HasWorked field.now turns signals.now.observed worker.old worker.new }
+    requires may { MayWork field.now shift.now.turns worker.old }
+    ensures { HasWorked field.now shift.now.turns shift.now.signals.now.observed worker.old worker.new }
 {
+    let turns = shift.turns;
+    let signals = shift.signals;
     let number = signals.worker_on(worker.seat.number());
     'turns: for turn in 0..turns {
         signals.reach(turn);
-        gate.pass(number, turn + 1);
+        shift.gate.pass(number, turn + 1);
         if signals.is_stopped() {
             return;
         }
         let (a, b) = worker.picker.pick(field.agents());
-        field.meet(rt, &mut worker.seat, a, b, gate);
+        field.meet(rt, &mut worker.seat, a, b, shift.gate);
     }
     signals.reach(turns);
 }
@@ -50,13 +50,11 @@ pub fn work_all<R: Threads + Wait + Sync, G: Gate>(
     rt: &R,
     field: &Field,
     workers: &mut [Worker],
-    turns: u64,
-    signals: &Signals,
-    gate: &G,
+    shift: &Shift<G>,
 )
     requires agents { IsCrowdSize (agents_of_field field.now) }
-    requires may { All (MayWork field.now turns) workers.old }
-    ensures { HaveWorked field.now turns signals.now.observed workers.old workers.new }
+    requires may { All (MayWork field.now shift.now.turns) workers.old }
+    ensures { HaveWorked field.now shift.now.turns shift.now.signals.now.observed workers.old workers.new }
 {
     let threads = workers.len().max(1);
     thread::for_each_mut(
@@ -64,8 +62,9 @@ pub fn work_all<R: Threads + Wait + Sync, G: Gate>(
         workers,
         threads,
         &|_i: usize, worker: &mut Worker|
-            requires { IsCrowdSize (agents_of_field field.now) × MayWork field.now turns worker.now }
-            ensures { HasWorked field.entry.now turns signals.entry.now.observed worker.entry.now worker.exit.now }
-        { work(rt, field, worker, turns, signals, gate) },
+            requires { IsCrowdSize (agents_of_field field.now) × MayWork field.now shift.now.turns worker.now }
+            ensures { HasWorked field.entry.now shift.entry.now.turns shift.entry.now.signals.now.observed
+                worker.entry.now worker.exit.now }
+        { work(rt, field, worker, shift) },
     );
 }

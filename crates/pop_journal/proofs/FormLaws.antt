@@ -24,7 +24,7 @@ use Rattle.pop_journal.specs.declared.fault.JournalWhy.{JournalWhy}
 use Rattle.pop_journal.specs.declared.fault.JournalWhy.TheVariants.{Form, Worker, Agents, Round}
 use Rattle.pop_journal.specs.Journal.{round_line, meeting_line, round_lines}
 use Rattle.pop_journal.specs.Rounds.{AreRounds, AreWatchedRounds, AreRoundsOf}
-use Rattle.pop_journal.specs.Form.{at_the_end, Told, three_numbers, told_words, told_in, Reading, all_rounds, wanted, settled, meeting_told, ends_inside, line_read, Parts, follow, lines_read}
+use Rattle.pop_journal.specs.Form.{at_the_end, three_numbers, told_words, told_in, Reading, all_rounds, wanted, settled, meeting_told, ends_inside, line_read, Parts, follow, lines_read}
 use Rattle.pop_journal.proofs.Texts.{round_lines-push}
 use Rattle.pop_journal.proofs.Spelled.{mark_words, joined_right}
 use Rattle.pop_journal.proofs.Counts.{round_full}
@@ -42,20 +42,20 @@ printed_spelled text n is small = by_form (has_no_leading_zero text) refl
     by_form : (b : Bool) → has_no_leading_zero text ≡ b → text ≡ decimal n
     by_form b e = let both = test (has_no_leading_zero text) (number_of text) is in printed-number_of text n both.0 both.1 small
 
-three_is : (o p q : Option ℕ) (m : Bool) (w a b : ℕ) (mark : Bool) → option_and_then (λ (x : ℕ). option_and_then (λ (y : ℕ). option_map (λ (z : ℕ). let t : Told = (x, y, z, m) in t) q) p) o ≡ Some (w, a, b, mark) → (o ≡ Some w) × (p ≡ Some a) × (q ≡ Some b) × (m ≡ mark)
+three_is : (o p q : Option ℕ) (m : Bool) (w a b : ℕ) (mark : Bool) → option_and_then (λ (x : ℕ). option_and_then (λ (y : ℕ). option_map (λ (z : ℕ). let t : MeetingLine = (x, y, z, m) in t) q) p) o ≡ Some (line_of w a b mark) → (o ≡ Some w) × (p ≡ Some a) × (q ≡ Some b) × (m ≡ mark)
 three_is None p q m w a b mark e = absurd cc
 three_is (Some x) None q m w a b mark e = absurd cc
 three_is (Some x) (Some y) None m w a b mark e = absurd cc
 three_is (Some x) (Some y) (Some z) m w a b mark e =
-    let same : ◌≡◌ {A = Told} (x, y, z, m) (w, a, b, mark) = cc in
-    (ap (λ (t : Told). Some t.0) same, ap (λ (t : Told). Some t.1) same, ap (λ (t : Told). Some t.2) same, ap (λ (t : Told). t.3) same)
+    let same : ◌≡◌ {A = MeetingLine} (x, y, z, m) (w, a, b, mark) = cc in
+    (ap (λ (t : MeetingLine). Some t.0) same, ap (λ (t : MeetingLine). Some t.1) same, ap (λ (t : MeetingLine). Some t.2) same, ap (λ (t : MeetingLine). t.3) same)
 
-three_spelled : (x y z : List ℕ) (m : Bool) (w a b : ℕ) (mark : Bool) → three_numbers x y z m ≡ Some (w, a, b, mark) → w < 2 ^ 64 → a < 2 ^ 64 → b < 2 ^ 64 → (x ≡ decimal w) × (y ≡ decimal a) × (z ≡ decimal b) × (m ≡ mark)
+three_spelled : (x y z : List ℕ) (m : Bool) (w a b : ℕ) (mark : Bool) → three_numbers x y z m ≡ Some (line_of w a b mark) → w < 2 ^ 64 → a < 2 ^ 64 → b < 2 ^ 64 → (x ≡ decimal w) × (y ≡ decimal a) × (z ≡ decimal b) × (m ≡ mark)
 three_spelled x y z m w a b mark e lw la lb =
     let parts = three_is (printed_number_of x) (printed_number_of y) (printed_number_of z) m w a b mark e in
     (printed_spelled x w parts.0 lw, printed_spelled y a parts.1 la, printed_spelled z b parts.2 lb, parts.3)
 
-words_spelled : (ws : List (List ℕ)) (w a b : ℕ) (mark : Bool) → told_words ws ≡ Some (w, a, b, mark) → w < 2 ^ 64 → a < 2 ^ 64 → b < 2 ^ 64 → ws ≡ decimal w ∷ decimal a ∷ decimal b ∷ mark_words mark
+words_spelled : (ws : List (List ℕ)) (w a b : ℕ) (mark : Bool) → told_words ws ≡ Some (line_of w a b mark) → w < 2 ^ 64 → a < 2 ^ 64 → b < 2 ^ 64 → ws ≡ decimal w ∷ decimal a ∷ decimal b ∷ mark_words mark
 words_spelled [] w a b mark e lw la lb = absurd cc
 words_spelled (x ∷ []) w a b mark e lw la lb = absurd cc
 words_spelled (x ∷ y ∷ []) w a b mark e lw la lb = absurd cc
@@ -64,7 +64,7 @@ words_spelled (x ∷ y ∷ z ∷ []) w a b mark e lw la lb =
     λ i. parts.0 i ∷ parts.1 i ∷ parts.2 i ∷ mark_words (parts.3 i)
 words_spelled (x ∷ y ∷ z ∷ star ∷ []) w a b mark e lw la lb = by_star (bytes_eq star (codes "*")) refl
   where
-    test : (t : Bool) (o : Option Told) → (if t then o else None) ≡ Some (w, a, b, mark) → (t ≡ true) × (o ≡ Some (w, a, b, mark))
+    test : (t : Bool) (o : Option MeetingLine) → (if t then o else None) ≡ Some (line_of w a b mark) → (t ≡ true) × (o ≡ Some (line_of w a b mark))
     test true o h = (refl, h)
     test false o h = absurd cc
 
@@ -81,7 +81,7 @@ join_marked w a b true = refl
 join_marked w a b false = ap (λ (t : List ℕ). decimal w ++ 32 ∷ (decimal a ++ 32 ∷ t)) (sym (append-nil (decimal b)))
 
 -- a line that is read as a meeting is its meeting line
-pub told_spelled : (line : List ℕ) (w a b : ℕ) (mark : Bool) → told_in line ≡ Some (w, a, b, mark) → w < 2 ^ 64 → a < 2 ^ 64 → b < 2 ^ 64 → line ≡ meeting_line (record { worker = w; a = a; b = b; changed = mark })
+pub told_spelled : (line : List ℕ) (w a b : ℕ) (mark : Bool) → told_in line ≡ Some (line_of w a b mark) → w < 2 ^ 64 → a < 2 ^ 64 → b < 2 ^ 64 → line ≡ meeting_line (record { worker = w; a = a; b = b; changed = mark })
 unfolding told_in
 told_spelled line w a b mark e lw la lb =
     sym (join_with_byte-slice_split 32 line) ∙ ap (join_with_byte 32) (words_spelled (pieces 32 line) w a b mark e lw la lb) ∙ join_marked w a b mark ∙ sym (joined_right (record { worker = w; a = a; b = b; changed = mark }))
@@ -179,7 +179,7 @@ module _ (kind : RunKind) (spec : RunSpec) (agents : ℕ) (workers : spec.worker
           let room : length (meetings_of w ms) < turns_in spec k = subst (λ (v : ℕ). length (meetings_of v ms) < turns_in spec k) e less in omega (arith, longer, room)
       by_worker w l (inr e) = let same = other_last w m ms e in let old = h.round.each_worker w l in omega (arith, same, old)
 
-  meeting_fits : (rounds : List (List Meeting)) (ms : List Meeting) (line : List ℕ) (next : Reading) (o : Option Told) → told_in line ≡ o → AreRounds spec agents rounds → IsOpen (length rounds + 1) ms → meeting_told spec agents rounds ms o ≡ Ok (Some next) → Fits next × (told_lines next ≡ told_lines (rounds, Some ms) ++ line ∷ [])
+  meeting_fits : (rounds : List (List Meeting)) (ms : List Meeting) (line : List ℕ) (next : Reading) (o : Option MeetingLine) → told_in line ≡ o → AreRounds spec agents rounds → IsOpen (length rounds + 1) ms → meeting_told spec agents rounds ms o ≡ Ok (Some next) → Fits next × (told_lines next ≡ told_lines (rounds, Some ms) ++ line ∷ [])
   meeting_fits rounds ms line next None is form h e = absurd cc
   meeting_fits rounds ms line next (Some (w, a, b, mark)) is form h e =
       let k = length rounds + 1 in
@@ -226,7 +226,7 @@ module _ (kind : RunKind) (spec : RunSpec) (agents : ℕ) (workers : spec.worker
   no_end true false x h = absurd cc
   no_end true true x h = absurd cc
 
-  no_end_in : (rounds : List (List Meeting)) (ms : List Meeting) (o : Option Told) → meeting_told spec agents rounds ms o ≡ Ok None → ⊥
+  no_end_in : (rounds : List (List Meeting)) (ms : List Meeting) (o : Option MeetingLine) → meeting_told spec agents rounds ms o ≡ Ok None → ⊥
   no_end_in rounds ms None e = absurd cc
   no_end_in rounds ms (Some (w, a, b, mark)) e = no_end _ _ _ e
 
@@ -318,7 +318,7 @@ unfolding told_in
 end_untold = refl
 
 -- a line that is read as a meeting isn't `end`
-pub told_no_end : (kind : RunKind) (line : List ℕ) (told : Told) → told_in line ≡ Some told → ends_inside kind line ≡ false
+pub told_no_end : (kind : RunKind) (line : List ℕ) (told : MeetingLine) → told_in line ≡ Some told → ends_inside kind line ≡ false
 told_no_end Whole line told is = refl
 told_no_end Watched line told is = by_test (bytes_eq line (codes "end")) refl
   where

@@ -19,7 +19,7 @@ use Rattle.pop_journal.specs.declared.fault.JournalWhy.{JournalWhy}
 use Rattle.pop_journal.specs.declared.fault.JournalWhy.TheVariants.{Form, Worker, Agents, Round}
 use Rattle.pop_journal.specs.Journal.{round_line, meeting_line, round_lines}
 use Rattle.pop_journal.specs.Rounds.{AreRounds, AreWatchedRounds, AreRoundsOf}
-use Rattle.pop_journal.specs.Form.{Told, Tells, three_numbers, told_words, told_in, Reading, all_rounds, wanted, settled, meeting_told, ends_inside, line_read, Parts, follow, lines_read}
+use Rattle.pop_journal.specs.Form.{Tells, three_numbers, told_words, told_in, Reading, all_rounds, wanted, settled, meeting_told, ends_inside, line_read, Parts, follow, lines_read}
 use Rattle.pop_journal.specs.ReadLines.{first_ends}
 use Rattle.pop_journal.proofs.Spelled.{IsSmall, meeting_words, mark_words}
 use Rattle.pop_journal.proofs.Counts.{round_most, round_full, round_long}
@@ -27,10 +27,10 @@ use Rattle.pop_journal.proofs.FormLaws.{told_no_end}
 use Rattle.pop_journal.proofs.Due.{own_first, own_last, other_last}
 use Rattle.pop_journal.proofs.Holds.{all_parts}
 
-three_back : (w a b : ℕ) (mark : Bool) → w < 2 ^ 64 → a < 2 ^ 64 → b < 2 ^ 64 → three_numbers (decimal w) (decimal a) (decimal b) mark ≡ Some (w, a, b, mark)
+three_back : (w a b : ℕ) (mark : Bool) → w < 2 ^ 64 → a < 2 ^ 64 → b < 2 ^ 64 → three_numbers (decimal w) (decimal a) (decimal b) mark ≡ Some (line_of w a b mark)
 three_back w a b mark lw la lb = rw (printed_number_of-decimal w lw, printed_number_of-decimal a la, printed_number_of-decimal b lb) refl
 
-words_back : (w a b : ℕ) (mark : Bool) → w < 2 ^ 64 → a < 2 ^ 64 → b < 2 ^ 64 → told_words (decimal w ∷ decimal a ∷ decimal b ∷ mark_words mark) ≡ Some (w, a, b, mark)
+words_back : (w a b : ℕ) (mark : Bool) → w < 2 ^ 64 → a < 2 ^ 64 → b < 2 ^ 64 → told_words (decimal w ∷ decimal a ∷ decimal b ∷ mark_words mark) ≡ Some (line_of w a b mark)
 words_back w a b true lw la lb = three_back w a b true lw la lb
 words_back w a b false lw la lb = three_back w a b false lw la lb
 
@@ -139,7 +139,7 @@ module _ (kind : RunKind) (spec : RunSpec) (agents : ℕ) (some_worker : 1 ≤ s
       ∙ ap (λ (d : List (List Meeting)). Ok (let p : Parts = (d, tail) in p)) (append_assoc done (r ∷ []) rest)
 
   -- the same for what the line says
-  pub read_told : (number : ℕ) (rounds : List (List Meeting)) (ms : List Meeting) (next : Reading) (told : Option Told) (lines others : List (List ℕ)) → Tells lines told others → length ms < wanted spec rounds
+  pub read_told : (number : ℕ) (rounds : List (List Meeting)) (ms : List Meeting) (next : Reading) (told : Option MeetingLine) (lines others : List (List ℕ)) → Tells lines told others → length ms < wanted spec rounds
       → first_ends kind lines ≡ false → meeting_told spec agents rounds ms told ≡ Ok (Some next) → lines_read kind spec agents number (settled spec rounds ms) lines ≡ lines_read kind spec agents (number + 1) next others
   read_told number rounds ms next told [] others t short on e = absurd t
   read_told number rounds ms next told (line ∷ lines) others t short on e =
@@ -148,7 +148,7 @@ module _ (kind : RunKind) (spec : RunSpec) (agents : ℕ) (some_worker : 1 ≤ s
       ∙ ap (lines_read kind spec agents (number + 1) next) t.1
 
   -- `end` in place of a meeting line
-  pub read_stopped : (number : ℕ) (rounds : List (List Meeting)) (ms : List Meeting) (told : Option Told) (lines others : List (List ℕ)) → Tells lines told others → length ms < wanted spec rounds
+  pub read_stopped : (number : ℕ) (rounds : List (List Meeting)) (ms : List Meeting) (told : Option MeetingLine) (lines others : List (List ℕ)) → Tells lines told others → length ms < wanted spec rounds
       → first_ends kind lines ≡ true → lines_read kind spec agents number (settled spec rounds ms) lines ≡ Ok (rounds ++ ms ∷ [], others)
   read_stopped number rounds ms told [] others t short on = absurd t
   read_stopped number rounds ms told (line ∷ lines) others t short on =

@@ -13,6 +13,7 @@ use Rattle.pop_words.specs.Kinds.{kind_word, most_workers_of}
 use Rattle.pop_words.specs.declared.spec.TheConstants.{TURN_LIMIT, MEETING_LIMIT, SEED_LIMIT}
 use Rattle.pop_words.specs.declared.spec.RunSpec.{RunSpec}
 use Rattle.pair_workers.specs.Run.{made_by, turns_in}
+use Rattle.pop_journal.specs.declared.form.MeetingLine.{MeetingLine}
 use Rattle.pop_journal.specs.Journal.{round_line}
 use Rattle.pop_journal.specs.declared.fault.JournalWhy.{JournalWhy}
 use Rattle.pop_journal.specs.declared.fault.JournalWhy.TheVariants.{Missing, Form, Worker, Agents, Round}
@@ -56,27 +57,23 @@ spec_words kind (first ∷ words) =
 unfoldable pub spec_in : RunKind → List ℕ → Option RunSpec
 spec_in kind line = spec_words kind (pieces 32 line)
 
--- the three numbers of a meeting line, of any value, and whether there is a mark
-abbrev pub Told : Type 0
-Told = ℕ × ℕ × ℕ × Bool
-
-abbrev pub three_numbers : List ℕ → List ℕ → List ℕ → Bool → Option Told
+abbrev pub three_numbers : List ℕ → List ℕ → List ℕ → Bool → Option MeetingLine
 three_numbers w a b mark =
     option_and_then
     (λ worker. option_and_then
-    (λ first. option_map (λ second. (worker, first, second, mark)) (printed_number_of b)) (printed_number_of a))
+    (λ first. option_map (λ second. record { worker = worker; first = first; second = second; changed = mark }) (printed_number_of b)) (printed_number_of a))
     (printed_number_of w)
 
-abbrev pub told_words : List (List ℕ) → Option Told
+abbrev pub told_words : List (List ℕ) → Option MeetingLine
 told_words (w ∷ a ∷ b ∷ []) = three_numbers w a b false
 told_words (w ∷ a ∷ b ∷ star ∷ []) = if bytes_eq star (codes "*") then three_numbers w a b true else None
 told_words _ = None
 
-unfoldable pub told_in : List ℕ → Option Told
+unfoldable pub told_in : List ℕ → Option MeetingLine
 told_in line = told_words (pieces 32 line)
 
 -- the first of these lines says this about a meeting, and these are the others
-abbrev pub Tells : List (List ℕ) → Option Told → List (List ℕ) → Type 0
+abbrev pub Tells : List (List ℕ) → Option MeetingLine → List (List ℕ) → Type 0
 Tells [] told others = ⊥
 Tells (line ∷ lines) told others = (told_in line ≡ told) × (lines ≡ others)
 
@@ -97,14 +94,18 @@ abbrev pub settled : RunSpec → List (List Meeting) → List Meeting → Readin
 settled spec rounds meetings =
     if length meetings == wanted spec rounds then (rounds ++ meetings ∷ [], None) else (rounds, Some meetings)
 
+-- the meeting that a line says
+abbrev pub meeting_of : MeetingLine → Meeting
+meeting_of told = record { worker = told.worker; a = told.first; b = told.second; changed = told.changed }
+
 -- a meeting by a worker that lacks meetings of this round, of two different agents
-abbrev pub meeting_told : RunSpec → ℕ → List (List Meeting) → List Meeting → Option Told
+abbrev pub meeting_told : RunSpec → ℕ → List (List Meeting) → List Meeting → Option MeetingLine
     → Result (Option Reading) JournalWhy
 meeting_told spec agents rounds meetings None = Err Form
-meeting_told spec agents rounds meetings (Some (w, a, b, mark)) =
-    if nat_lt w spec.workers && nat_lt (made_by w meetings) (turns_in spec (length rounds + 1))
-    then if not (a == b) && (nat_lt a agents && nat_lt b agents)
-    then Ok (Some (settled spec rounds (meetings ++ record { worker = w; a = a; b = b; changed = mark } ∷ [])))
+meeting_told spec agents rounds meetings (Some told) =
+    if nat_lt told.worker spec.workers && nat_lt (made_by told.worker meetings) (turns_in spec (length rounds + 1))
+    then if not (told.first == told.second) && (nat_lt told.first agents && nat_lt told.second agents)
+    then Ok (Some (settled spec rounds (meetings ++ meeting_of told ∷ [])))
     else Err Agents
     else Err Worker
 

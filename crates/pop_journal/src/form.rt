@@ -19,20 +19,23 @@ use pop_io::{SHARD_LIMIT, WORKER_LIMIT};
 use pop_lines::{cut, next_line, printed_number, printed_within};
 use pop_words::{MEETING_LIMIT, RunKind, RunSpec, SEED_LIMIT, TURN_LIMIT};
 
+/// The numbers of a meeting line, of any size, and whether it has a mark.
+#[derive(Clone, Copy)]
+pub(crate) struct MeetingLine {
+    pub worker: u128,
+    pub first: u128,
+    pub second: u128,
+    pub changed: bool,
+}
+
 /// What the first line of a text says about a meeting, not yet checked, and what follows its line feed.
 /// `None` if the text has no lines.
 #[inline(always)]
-pub(crate) fn next_told(text: &[u8]) -> Option<(Option<(u128, u128, u128, bool)>, &[u8])>
+pub(crate) fn next_told(text: &[u8]) -> Option<(Option<MeetingLine>, &[u8])>
     ensures { MatchOption result (lines_of text.now ≡ [])
         (λ found. Tells (lines_of text.now) found.0 (lines_of found.1.now)) }
 {
-    if let Some((worker, first, second, mark, rest)) = short_meeting(text) {
-        let told = (
-            u128::from(worker),
-            u128::from(first),
-            u128::from(second),
-            mark,
-        );
+    if let Some((told, rest)) = short_meeting(text) {
         return Some((Some(told), rest));
     }
     let (line, rest) = next_line(text)?;
@@ -41,7 +44,7 @@ pub(crate) fn next_told(text: &[u8]) -> Option<(Option<(u128, u128, u128, bool)>
 
 /// What a line says, with numbers of any length.
 #[tactic(auto, using(crate::proofs::FormLaws::told_five), unfolding(crate::specs::Form::told_in))]
-fn long_told(line: &[u8]) -> Option<(u128, u128, u128, bool)>
+fn long_told(line: &[u8]) -> Option<MeetingLine>
     ensures { result ≡ told_in line.now }
 {
     let (worker, rest) = cut(line, b' ');
@@ -57,13 +60,18 @@ fn long_told(line: &[u8]) -> Option<(u128, u128, u128, bool)>
     }
 }
 
-fn three(worker: &[u8], first: &[u8], second: &[u8], mark: bool) -> Option<(u128, u128, u128, bool)>
-    ensures { result ≡ three_numbers worker.now first.now second.now mark }
+fn three(worker: &[u8], first: &[u8], second: &[u8], changed: bool) -> Option<MeetingLine>
+    ensures { result ≡ three_numbers worker.now first.now second.now changed }
 {
     let worker = printed_number(worker)?;
     let first = printed_number(first)?;
     let second = printed_number(second)?;
-    Some((worker, first, second, mark))
+    Some(MeetingLine {
+        worker,
+        first,
+        second,
+        changed,
+    })
 }
 
 /// Whether a text begins with the line `end` and a round of this kind may stop here.
@@ -78,7 +86,7 @@ fn ends_here(kind: RunKind, text: &[u8]) -> bool
 
 /// The same, given what the first line says about a meeting. A line that says something about one isn't `end`.
 #[inline(always)]
-pub(crate) fn stops_here(kind: RunKind, told: Option<(u128, u128, u128, bool)>, text: &[u8]) -> bool
+pub(crate) fn stops_here(kind: RunKind, told: Option<MeetingLine>, text: &[u8]) -> bool
     ensures { (others : Items (Items ℕ)) → Tells (lines_of text.now) told others
         → result ≡ first_ends kind (lines_of text.now) }
 {
@@ -90,7 +98,7 @@ pub(crate) fn stops_here(kind: RunKind, told: Option<(u128, u128, u128, bool)>, 
 
 /// The meeting on a line, by a worker that has fewer meetings of this round than its turns.
 pub(crate) fn checked(
-    told: Option<(u128, u128, u128, bool)>,
+    told: Option<MeetingLine>,
     spec: &RunSpec,
     agents: u32,
     made: &[u64],
@@ -104,7 +112,13 @@ pub(crate) fn checked(
         → ((w : ℕ) (d : ℕ) → w < spec.now.workers → slice_index_or made.now w d ≡ length (meetings_of w meetings))
         → meeting_told spec.now agents rounds meetings told ≡ onward spec.now rounds meetings result }
 {
-    let Some((worker, first, second, mark)) = told else {
+    let Some(MeetingLine {
+        worker,
+        first,
+        second,
+        changed,
+    }) = told
+    else {
         return Err(JournalWhy::Form);
     };
     let workers = spec.workers;
@@ -119,7 +133,7 @@ pub(crate) fn checked(
         worker: worker as u16,
         a: first as u32,
         b: second as u32,
-        changed: mark,
+        changed,
     })
 }
 

@@ -5,6 +5,8 @@ ghost use Rattle.pop_lines.specs.Lines.{lines_of};
 ghost use Rattle.pop_journal.specs.Form.{Tells};
 ghost use Rattle.pop_journal.specs.FirstPair.{IsFirstPair};
 
+use crate::form::MeetingLine;
+
 /// Each number of so many digits is below 2^32.
 const SHORT_DIGITS: usize = 9;
 
@@ -56,14 +58,20 @@ fn line_end(text: &[u8]) -> Option<(bool, &[u8])>
 /// What a meeting line says if all its numbers are short, and what follows its line feed.
 /// It may be `None` for another meeting line.
 #[inline(always)]
-pub(crate) fn short_meeting(text: &[u8]) -> Option<(u32, u32, u32, bool, &[u8])>
-    ensures { IfSome result (λ m. Tells (lines_of text.now) (Some (m.0, m.1, m.2, m.3)) (lines_of m.4.now)) }
+pub(crate) fn short_meeting(text: &[u8]) -> Option<(MeetingLine, &[u8])>
+    ensures { IfSome result (λ m. Tells (lines_of text.now) (Some m.0) (lines_of m.1.now)) }
 {
     let (worker, rest) = leading_number(text)?;
     let (first, rest) = leading_number(behind(rest, b' ')?)?;
     let (second, rest) = leading_number(behind(rest, b' ')?)?;
-    let (mark, rest) = line_end(rest)?;
-    Some((worker, first, second, mark, rest))
+    let (changed, rest) = line_end(rest)?;
+    let told = MeetingLine {
+        worker: u128::from(worker),
+        first: u128::from(first),
+        second: u128::from(second),
+        changed,
+    };
+    Some((told, rest))
 }
 
 /// The two agents that the first line of a text names, if its numbers are short and printed and it has a line feed, and

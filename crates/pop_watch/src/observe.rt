@@ -7,15 +7,15 @@ ghost use Rattle.terminal_test.specs.TableNet.{table_net};
 ghost use Rattle.pair_workers.specs.CrowdSize.{IsCrowdSize};
 ghost use Rattle.pop_watch.specs.Work.{CanObserve};
 
+use crate::context::RunContext;
 use crate::limits::{LOOKS_A_ROUND, POLLS_A_LOOK};
 use agent_field::{Field, FieldSeat};
-use pair_workers::Signals;
+use pair_workers::Shift;
 use pop_crowd::Crowd;
 use pop_io::{Gate, NoMemory};
 use pop_net::Net;
 use std::alloc::Global;
 use std::sync::Wait;
-use terminal_test::PairTable;
 
 /// The crowd that a look shows.
 fn seen_crowd<R: Wait>(
@@ -45,28 +45,25 @@ fn seen_crowd<R: Wait>(
 fn look_on<R: Wait, G: Gate>(
     rt: &R,
     alloc: Global,
-    net: &Net,
-    table: &PairTable,
+    run: &RunContext<G>,
     field: &Field,
     seat: &mut FieldSeat,
-    turns: u64,
-    workers: u16,
-    signals: &Signals,
-    gate: &G,
+    shift: &Shift<G>,
 ) -> Result<(), NoMemory>
-    requires { CanObserve net.now (table_net table.now) field.now turns seat.old }
+    requires { CanObserve run.now.net.now (table_net run.now.table.now) field.now shift.now.turns seat.old }
     ensures { IsSeatOf field.now seat.new × KeepsLogs seat.old seat.new }
 {
+    let turns = shift.turns;
     let mut last = None;
     'looks: for look in 0..LOOKS_A_ROUND {
         let due = turns * u64::from(look) / u64::from(LOOKS_A_ROUND);
-        if turns <= signals.turn_from(due, POLLS_A_LOOK) {
+        if turns <= shift.signals.turn_from(due, POLLS_A_LOOK) {
             return Ok(());
         }
-        gate.pass(workers, u64::from(look) + 1);
-        let crowd = seen_crowd(rt, alloc, net, field, seat)?;
-        if table.is_terminal(alloc, &crowd, &mut last)? {
-            signals.stop();
+        shift.gate.pass(run.spec.workers, u64::from(look) + 1);
+        let crowd = seen_crowd(rt, alloc, run.net, field, seat)?;
+        if run.table.is_terminal(alloc, &crowd, &mut last)? {
+            shift.signals.stop();
             return Ok(());
         }
     }
@@ -77,21 +74,15 @@ fn look_on<R: Wait, G: Gate>(
 pub(crate) fn observe<R: Wait, G: Gate>(
     rt: &R,
     alloc: Global,
-    net: &Net,
-    table: &PairTable,
+    run: &RunContext<G>,
     field: &Field,
     seat: &mut FieldSeat,
-    turns: u64,
-    workers: u16,
-    signals: &Signals,
-    gate: &G,
+    shift: &Shift<G>,
 ) -> Result<(), NoMemory>
-    requires { CanObserve net.now (table_net table.now) field.now turns seat.old }
+    requires { CanObserve run.now.net.now (table_net run.now.table.now) field.now shift.now.turns seat.old }
     ensures { IsSeatOf field.now seat.new × KeepsLogs seat.old seat.new }
 {
-    let observed = look_on(
-        rt, alloc, net, table, field, seat, turns, workers, signals, gate,
-    );
-    gate.pass(workers, u64::from(seat.looks()) + 1);
+    let observed = look_on(rt, alloc, run, field, seat, shift);
+    shift.gate.pass(run.spec.workers, u64::from(seat.looks()) + 1);
     observed
 }

@@ -4,30 +4,28 @@ ghost use Rattle.std.specs.Prelude.{◌≡◌, true, ℕ, ◌<◌, ◌≤◌, le
 ghost use Rattle.agent_field.specs.Layouts.{Serves};
 ghost use Rattle.agent_field.specs.Seats.{IsSeatOf, KeepsLogs};
 ghost use Rattle.terminal_test.specs.TableNet.{table_net};
-ghost use Rattle.pop_words.specs.Options.{IsWithinLimits};
 ghost use Rattle.pair_workers.specs.CrowdSize.{IsCrowdSize};
-ghost use Rattle.pair_workers.specs.SameLanes.{HaveSameLanes};
 ghost use Rattle.pair_workers.specs.Turns.{CanMakeRound};
 ghost use Rattle.pair_workers.specs.Work.{agents_of_field, MayWork, HaveWorked};
 ghost use Rattle.pair_workers.specs.Run.{made_by};
 ghost use Rattle.pop_watch.specs.Work.{CanObserve};
 ghost use Rattle.pop_watch.specs.Playing.{IsPartOfRound, IsWatchedRoundFrom, of_worker};
 
+use crate::context::RunContext;
 use crate::limits::LOOKS_A_ROUND;
 use crate::missing::make_missing;
 use crate::observe::observe;
 use agent_field::{Field, FieldSeat, Layout};
 use pair_workers::{
-    Picker, ROUND_TURNS, RoundEnd, Signals, Worker, meetings_made, open_round, take_in, work_all,
+    ROUND_TURNS, RoundEnd, RoundStart, Shift, Signals, Worker, meetings_made, open_round, take_in,
+    work_all,
 };
 use pop_crowd::{Crowd, Meeting};
 use pop_io::{Gate, NoMemory};
-use pop_net::Net;
-use pop_words::{RunSpec, WATCHED_WORKERS};
+use pop_words::WATCHED_WORKERS;
 use std::alloc::Global;
 use std::sync::Wait;
 use std::thread::{Threads, join_mut};
-use terminal_test::PairTable;
 
 /// The meetings of seats as those of their workers. The observer's seat 0 has none.
 fn by_workers(alloc: Global, meetings: &[Meeting]) -> Result<Vec<Meeting>, NoMemory>
@@ -50,37 +48,35 @@ fn by_workers(alloc: Global, meetings: &[Meeting]) -> Result<Vec<Meeting>, NoMem
 fn watch_beside<R: Threads + Wait + Sync, G: Gate>(
     rt: &R,
     alloc: Global,
-    net: &Net,
-    table: &PairTable,
+    run: &RunContext<G>,
     field: &Field,
     seat: &mut FieldSeat,
     workers: &mut [Worker],
-    number: u16,
     turns: u64,
-    gate: &G,
 ) -> Result<(), NoMemory>
-    requires observer { CanObserve net.now (table_net table.now) field.now turns seat.old }
+    requires observer { CanObserve run.now.net.now (table_net run.now.table.now) field.now turns seat.old }
     requires workers { All (MayWork field.now turns) workers.old }
     ensures seat { IsSeatOf field.now seat.new × KeepsLogs seat.old seat.new }
     ensures workers { HaveWorked field.now turns true workers.old workers.new }
 {
     let signals = Signals::new(true);
-    let shared = &signals;
+    let shift = Shift {
+        turns,
+        signals: &signals,
+        gate: run.gate,
+    };
+    let shared = &shift;
     let (observed, ()) = join_mut(
         rt,
         &mut || -> Result<(), NoMemory>
-            requires { CanObserve net.now (table_net table.now) field.now turns seat.now }
+            requires { CanObserve run.now.net.now (table_net run.now.table.now) field.now shared.now.turns seat.now }
             ensures { IsSeatOf field.entry.now seat.exit.now × KeepsLogs seat.entry.now seat.exit.now }
-        {
-            observe(
-                rt, alloc, net, table, field, seat, turns, number, shared, gate,
-            )
-        },
+        { observe(rt, alloc, run, field, seat, shared) },
         &mut ||
-            requires { IsCrowdSize (agents_of_field field.now) × All (MayWork field.now turns) workers.now
-                × (shared.now.observed ≡ true) }
-            ensures { HaveWorked field.entry.now turns true workers.entry.now workers.exit.now }
-        { work_all(rt, field, workers, turns, shared, gate) },
+            requires { IsCrowdSize (agents_of_field field.now) × All (MayWork field.now shared.now.turns) workers.now
+                × (shared.now.signals.now.observed ≡ true) }
+            ensures { HaveWorked field.entry.now shared.entry.now.turns true workers.entry.now workers.exit.now }
+        { work_all(rt, field, workers, shared) },
     );
     observed
 }
@@ -89,53 +85,31 @@ fn watch_beside<R: Threads + Wait + Sync, G: Gate>(
 fn field_round<R: Threads + Wait + Sync, G: Gate>(
     rt: &R,
     alloc: Global,
-    net: &Net,
-    table: &PairTable,
-    crowd: Crowd,
-    spec: &RunSpec,
-    pickers: Vec<Picker>,
-    turns: u64,
+    run: &RunContext<G>,
+    start: RoundStart,
     layout: &mut Layout,
-    gate: &G,
 ) -> Result<(RoundEnd, Vec<u64>), NoMemory>
-    requires lanes { HaveSameLanes (table_net table.now) net.now }
-    requires round { CanMakeRound net.now crowd spec.now.workers turns pickers.items }
-    requires limits { IsWithinLimits spec.now × (spec.now.workers ≤ WATCHED_WORKERS) }
-    requires serves { Serves layout.old crowd spec.now.shards }
-    ensures part { IfOk result (λ r. IsPartOfRound net.now crowd spec.now.workers turns pickers.items r.0) }
-    ensures serves { IfOk result (λ r. Serves layout.new r.0.crowd spec.now.shards) }
+    requires round { CanMakeRound run.now.net.now start.crowd run.now.spec.now.workers start.turns start.pickers.items }
+    requires workers { run.now.spec.now.workers ≤ WATCHED_WORKERS }
+    requires serves { Serves layout.old start.crowd run.now.spec.now.shards }
+    ensures part { IfOk result (λ r.
+        IsPartOfRound run.now.net.now start.crowd run.now.spec.now.workers start.turns start.pickers.items r.0) }
+    ensures serves { IfOk result (λ r. Serves layout.new r.0.crowd run.now.spec.now.shards) }
     ensures made { IfOk result
-        (λ r. (length r.1.items ≡ spec.now.workers)
-        × ((w d : ℕ) → w < spec.now.workers → slice_index_or r.1.items w d ≡ made_by w r.0.meetings.items)) }
+        (λ r. (length r.1.items ≡ run.now.spec.now.workers)
+        × ((w d : ℕ) → w < run.now.spec.now.workers
+        → slice_index_or r.1.items w d ≡ made_by w r.0.meetings.items)) }
 {
-    let (field, mut seat, mut workers) = open_round(
-        rt,
-        alloc,
-        net,
-        crowd,
-        spec.shards,
-        pickers,
-        turns,
-        layout,
-    )?;
+    let turns = start.turns;
+    let (field, mut seat, mut workers) =
+        open_round(rt, alloc, run.net, run.spec.shards, start, layout)?;
     field.reserve_looks(alloc, &mut seat, LOOKS_A_ROUND)?;
-    watch_beside(
-        rt,
-        alloc,
-        net,
-        table,
-        &field,
-        &mut seat,
-        workers.as_mut_slice(),
-        spec.workers,
-        turns,
-        gate,
-    )?;
+    watch_beside(rt, alloc, run, &field, &mut seat, workers.as_mut_slice(), turns)?;
     let made = meetings_made(alloc, workers.as_slice())?;
     let (whole, pickers) = take_in(&field, seat, workers, Vec::new(alloc))?;
     let round = field.close_on(alloc, whole, layout)?;
     let meetings = by_workers(alloc, round.meetings.as_slice())?;
-    let crowd = Crowd::of_words(net, round.words);
+    let crowd = Crowd::of_words(run.net, round.words);
     let played = RoundEnd {
         crowd,
         pickers,
@@ -155,33 +129,27 @@ fn are_made(made: &[u64], turns: u64) -> bool
 pub(crate) fn watched_round<R: Threads + Wait + Sync, G: Gate>(
     rt: &R,
     alloc: Global,
-    net: &Net,
-    table: &PairTable,
-    crowd: Crowd,
-    spec: &RunSpec,
-    pickers: Vec<Picker>,
-    turns: u64,
+    run: &RunContext<G>,
+    start: RoundStart,
     layout: &mut Layout,
-    gate: &G,
 ) -> Result<RoundEnd, NoMemory>
-    requires lanes { HaveSameLanes (table_net table.now) net.now }
-    requires round { CanMakeRound net.now crowd spec.now.workers turns pickers.items }
-    requires limits { IsWithinLimits spec.now × (spec.now.workers ≤ WATCHED_WORKERS) }
-    requires serves { Serves layout.old crowd spec.now.shards }
+    requires round { CanMakeRound run.now.net.now start.crowd run.now.spec.now.workers start.turns start.pickers.items }
+    requires workers { run.now.spec.now.workers ≤ WATCHED_WORKERS }
+    requires serves { Serves layout.old start.crowd run.now.spec.now.shards }
     ensures round { IfOk result
-        (IsWatchedRoundFrom (table_net table.now) net.now crowd spec.now.workers turns pickers.items) }
-    ensures serves { IfOk result (λ r. Serves layout.new r.crowd spec.now.shards) }
+        (IsWatchedRoundFrom (table_net run.now.table.now) run.now.net.now start.crowd run.now.spec.now.workers
+        start.turns start.pickers.items) }
+    ensures serves { IfOk result (λ r. Serves layout.new r.crowd run.now.spec.now.shards) }
 {
-    let (mut played, made) = field_round(
-        rt, alloc, net, table, crowd, spec, pickers, turns, layout, gate,
-    )?;
+    let turns = start.turns;
+    let (mut played, made) = field_round(rt, alloc, run, start, layout)?;
     if are_made(made.as_slice(), turns) {
         return Ok(played);
     }
-    if table.is_terminal(alloc, &played.crowd, &mut None)? {
+    if run.table.is_terminal(alloc, &played.crowd, &mut None)? {
         return Ok(played);
     }
     layout.clear();
-    make_missing(net, &mut played, made.as_slice(), turns)?;
+    make_missing(run.net, &mut played, made.as_slice(), turns)?;
     Ok(played)
 }

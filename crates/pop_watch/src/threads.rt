@@ -13,7 +13,8 @@ use crate::context::RunContext;
 use crate::round::watched_round;
 use agent_field::Layout;
 use pair_workers::{
-    End, Picker, ROUND_TURNS, RoundEnd, RoundSink, end_of, first_pickers, goes_on, next_round,
+    End, ROUND_TURNS, RoundContext, RoundEnd, RoundSink, RoundStart, end_of, first_pickers, goes_on,
+    next_round,
 };
 use pop_crowd::Crowd;
 use pop_io::{Gate, NoMemory};
@@ -30,25 +31,25 @@ fn round_of<R: Threads + Wait + Sync, G: Gate>(
     alloc: Global,
     kind: RunKind,
     run: &RunContext<G>,
-    crowd: Crowd,
-    pickers: Vec<Picker>,
-    turns: u64,
+    start: RoundStart,
     layout: &mut Layout,
 ) -> Result<RoundEnd, NoMemory>
-    requires round { CanMakeRound run.now.net.now crowd run.now.spec.now.workers turns pickers.items }
+    requires round { CanMakeRound run.now.net.now start.crowd run.now.spec.now.workers start.turns start.pickers.items }
     requires workers { run.now.spec.now.workers ≤ most_workers_of kind }
-    requires serves { Serves layout.old crowd run.now.spec.now.shards }
+    requires serves { Serves layout.old start.crowd run.now.spec.now.shards }
     ensures round { IfOk result
-        (IsRoundOf kind (table_net run.now.table.now) run.now.net.now crowd run.now.spec.now.workers turns
-        pickers.items) }
+        (IsRoundOf kind (table_net run.now.table.now) run.now.net.now start.crowd run.now.spec.now.workers start.turns
+        start.pickers.items) }
     ensures serves { IfOk result (λ r. Serves layout.new r.crowd run.now.spec.now.shards) }
 {
-    let (net, spec, gate) = (run.net, run.spec, run.gate);
+    let plain = RoundContext {
+        net: run.net,
+        spec: run.spec,
+        gate: run.gate,
+    };
     match kind {
-        RunKind::Whole => next_round(rt, alloc, net, crowd, spec, pickers, turns, layout, gate),
-        RunKind::Watched => watched_round(
-            rt, alloc, net, run.table, crowd, spec, pickers, turns, layout, gate,
-        ),
+        RunKind::Whole => next_round(rt, alloc, &plain, start, layout),
+        RunKind::Watched => watched_round(rt, alloc, run, start, layout),
     }
 }
 
@@ -86,7 +87,12 @@ pub(crate) fn run_on_threads<R: Threads + Wait + Sync, G: Gate, S: RoundSink>(
     let mut last = None;
     'rounds: while goes_on(alloc, &table, &crowd, left, &mut last)? {
         let turns = ROUND_TURNS.min(left);
-        let played = round_of(rt, alloc, kind, &run, crowd, pickers, turns, &mut layout)?;
+        let start = RoundStart {
+            crowd,
+            pickers,
+            turns,
+        };
+        let played = round_of(rt, alloc, kind, &run, start, &mut layout)?;
         sink.take(number, played.meetings)?;
         crowd = played.crowd;
         pickers = played.pickers;

@@ -28,19 +28,19 @@ work_beside-requires-clause-may g c κs within =
         room = r.room;
         log = r.own ∙ e.fresh.0;
       },
-      subst (λ (l : List Worker). All (MayWork c.in_ok-field.field c.args.turns) l) (sym c.as_mut_slice-workers.ensures.value) (λ k d h. (e.ready.1 k d [] h).may),
+      subst (λ (l : List Worker). All (MayWork c.in_ok-field.field c.args.start.turns) l) (sym c.as_mut_slice.ensures.value) (λ k d h. (e.ready.1 k d [] h).may),
     )
 
 pub take_in-requires : goal.take_in-requires
 take_in-requires g c =
     let f = c.in_ok-field.field in
-    let turns = c.args.turns in
+    let turns = c.args.start.turns in
     let rest = c.remove-picker.new.self.items in
     let new = c.work_beside.new.others in
     let old = c.in_ok-field.others.items in
     let e = c.in_ok-field.ensures.opened in
     let done = subst (λ (b : Bool). AreDone f turns b rest new) c.new-signals.ensures
-    (are_done f turns c.new-signals.result.observed rest old _ new c.as_mut_slice-workers.ensures.value e.ready c.work_beside.auto.others c.work_beside.ensures.others) in
+    (are_done f turns c.new-signals.result.observed rest old _ new c.as_mut_slice.ensures.value e.ready c.work_beside.auto.others c.work_beside.ensures.others) in
     let list = whole_written c.in_ok-field.others.len new old (done.0 ∙ sym e.ready.0) (omega arith) in
     let first = c.work_beside.new.first in
     let worked = c.work_beside.ensures.first in
@@ -74,31 +74,31 @@ of_words-requires-clause-few g c =
 pub returns-clause-round : goal.returns-clause-round
 returns-clause-round g c =
     let f = c.in_ok-field.field in
-    let turns = c.args.turns in
+    let turns = c.args.start.turns in
     let rest = c.remove-picker.new.self.items in
     let new = c.work_beside.new.others in
     let old = c.in_ok-field.others.items in
     let e = c.in_ok-field.ensures.opened in
     let done = subst (λ (b : Bool). AreDone f turns b rest new) c.new-signals.ensures
-    (are_done f turns c.new-signals.result.observed rest old _ new c.as_mut_slice-workers.ensures.value e.ready c.work_beside.auto.others c.work_beside.ensures.others) in
+    (are_done f turns c.new-signals.result.observed rest old _ new c.as_mut_slice.ensures.value e.ready c.work_beside.auto.others c.work_beside.ensures.others) in
     let list = whole_written c.in_ok-field.others.len new old (done.0 ∙ sym e.ready.0) (omega arith) in
     let first = c.work_beside.new.first in
     let worked = c.work_beside.ensures.first in
-    let net = c.args.net.now in
-    let pickers = c.args.pickers.items in
+    let net = c.args.run.now.net.now in
+    let pickers = c.args.start.pickers.items in
     let own = c.remove-picker.result in
     let all = subst (λ (l : List Worker). HasAll f l first.seat c.in_ok-whole.whole) list c.in_ok-whole.ensures.all in
     let closed = c.in_ok-round.ensures.round in
     let round = c.in_ok-round.round in
-    let some : 0 < length pickers = omega (arith, c.requires.round.pickers, c.requires.limits.workers.0) in
+    let some : 0 < length pickers = omega (arith, c.requires.round.pickers, c.args.run.now.limits.workers.0) in
     let split : pickers ≡ own ∷ rest = front pickers rest own some c.remove-picker.ensures.value c.remove-picker.ensures.by_index.2 in
-    let many : length rest + 1 ≡ c.args.spec.now.workers = (let long = ap (length {A = List ℕ}) (sym split) ∙ c.requires.round.pickers in omega (arith, long)) in
+    let many : length rest + 1 ≡ c.args.run.now.spec.now.workers = (let long = ap (length {A = List ℕ}) (sym split) ∙ c.requires.round.pickers in omega (arith, long)) in
     let after : List (List ℕ) = first.picker ∷ map (λ (v : Worker). v.picker) new in
     let moved : c.in_ok-whole.pickers.items ≡ after = c.in_ok-whole.ensures.pickers ∙ (λ i. c.in_ok-push.ensures.items i ++ map (λ (v : Worker). v.picker) (list i)) ∙ search rules in
     let mine : HasPicked (agents_of_field f) turns own first.picker (pairs_of (log_of first.seat)) = subst (λ (n : ℕ). HasPicked (agents_of_field f) n own first.picker (pairs_of (log_of first.seat))) (worked.all c.new-signals.ensures) worked.made.picked in
     let words : round.words ≡ c.of_words.result = sym c.of_words.ensures in
     let meetings : round.meetings ≡ c.into_vec.result.items = sym c.into_vec.ensures in
-    let seats : seats_of f ≡ c.args.spec.now.workers = e.field.seats_are ∙ many in
+    let seats : seats_of f ≡ c.args.run.now.spec.now.workers = e.field.seats_are ∙ many in
     let played = are_played (net_of f) (opening_of f) round.words (seats_of f) turns (own ∷ rest) after round.meetings closed.words closed.history
     (λ w d h. all_picked f turns own rest new first c.in_ok-whole.whole round.meetings mine done all closed.own closed.taken w d (omega (arith, h, seats, many))) in
     record {

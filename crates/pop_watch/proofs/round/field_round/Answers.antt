@@ -27,7 +27,7 @@ watch_beside-requires-clause-observer g c κs within =
     let e = c.in_ok-field.ensures.opened in
     let r = c.in_ok-reserve_looks.ensures in
     record {
-      lanes = c.requires.lanes;
+      lanes = c.args.run.now.lanes;
       field = e.field.net_is;
       agents = subst (λ (l : List Word). (2 ≤ length l) × (length l ≤ 65536)) (sym e.field.opening_is) e.agents;
       ours = r.ours;
@@ -39,14 +39,14 @@ watch_beside-requires-clause-observer g c κs within =
 pub watch_beside-requires-clause-workers : goal.watch_beside-requires-clause-workers
 watch_beside-requires-clause-workers g c κs within =
     let ready = c.in_ok-field.ensures.opened.ready.1 in
-    subst (λ (l : List Worker). All (MayWork c.in_ok-field.field c.args.turns) l) (sym c.as_mut_slice.ensures.value) (λ k d h. (ready k d [] h).may)
+    subst (λ (l : List Worker). All (MayWork c.in_ok-field.field c.args.start.turns) l) (sym c.as_mut_slice.ensures.value) (λ k d h. (ready k d [] h).may)
 
 pub take_in-requires : goal.take_in-requires
 take_in-requires g c =
     let e = c.in_ok-field.ensures.opened in
     let f = c.in_ok-field.field in
-    let turns = c.args.turns in
-    let pickers = c.args.pickers.items in
+    let turns = c.args.start.turns in
+    let pickers = c.args.start.pickers.items in
     let new = c.watch_beside.new.workers in
     let old = c.in_ok-field.workers.items in
     let done = are_done f turns true pickers old _ new c.as_mut_slice.ensures.value e.ready c.watch_beside.auto.workers c.watch_beside.ensures.workers in
@@ -83,8 +83,8 @@ of_words-crowd-requires-clause-few g c =
 pub returns-clause-made : goal.returns-clause-made
 returns-clause-made g c =
     let f = c.in_ok-field.field in
-    let turns = c.args.turns in
-    let pickers = c.args.pickers.items in
+    let turns = c.args.start.turns in
+    let pickers = c.args.start.pickers.items in
     let new = c.watch_beside.new.workers in
     let old = c.in_ok-field.workers.items in
     let ready = c.in_ok-field.ensures.opened.ready in
@@ -106,12 +106,12 @@ returns-clause-made g c =
 
 pub returns-clause-part : goal.returns-clause-part
 returns-clause-part g c =
-    let net = c.args.net.now in
-    let workers = c.args.spec.now.workers in
+    let net = c.args.run.now.net.now in
+    let workers = c.args.run.now.spec.now.workers in
     let is = c.in_ok-field.ensures.opened.field in
     let f = c.in_ok-field.field in
-    let turns = c.args.turns in
-    let pickers = c.args.pickers.items in
+    let turns = c.args.start.turns in
+    let pickers = c.args.start.pickers.items in
     let new = c.watch_beside.new.workers in
     let old = c.in_ok-field.workers.items in
     let ready = c.in_ok-field.ensures.opened.ready in

@@ -1,0 +1,12 @@
+//! What a round begins with.
+
+use crate::picker::Picker;
+use pop_crowd::Crowd;
+
+/// A crowd, the workers' pickers, and how many turns each worker makes.
+#[derive(Drop)]
+pub struct RoundStart {
+    pub crowd: Crowd,
+    pub pickers: Vec<Picker>,
+    pub turns: u64,
+}
