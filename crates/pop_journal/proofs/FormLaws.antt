@@ -24,7 +24,8 @@ use Rattle.pop_journal.specs.declared.fault.JournalWhy.{JournalWhy}
 use Rattle.pop_journal.specs.declared.fault.JournalWhy.TheVariants.{Form, Worker, Agents, Round}
 use Rattle.pop_journal.specs.Journal.{round_line, meeting_line, round_lines}
 use Rattle.pop_journal.specs.Rounds.{AreRounds, AreWatchedRounds, AreRoundsOf}
-use Rattle.pop_journal.specs.Form.{at_the_end, three_numbers, told_words, told_in, Reading, all_rounds, wanted, settled, meeting_told, ends_inside, line_read, Parts, follow, lines_read}
+use Rattle.pop_journal.specs.declared.form.MeetingLine.{MeetingLine}
+use Rattle.pop_journal.specs.Form.{at_the_end, three_numbers, told_words, told_in, Reading, all_rounds, wanted, settled, meeting_of, meeting_told, ends_inside, line_read, Parts, follow, lines_read}
 use Rattle.pop_journal.proofs.Texts.{round_lines-push}
 use Rattle.pop_journal.proofs.Spelled.{mark_words, joined_right}
 use Rattle.pop_journal.proofs.Counts.{round_full}
@@ -42,13 +43,17 @@ printed_spelled text n is small = by_form (has_no_leading_zero text) refl
     by_form : (b : Bool) → has_no_leading_zero text ≡ b → text ≡ decimal n
     by_form b e = let both = test (has_no_leading_zero text) (number_of text) is in printed-number_of text n both.0 both.1 small
 
-three_is : (o p q : Option ℕ) (m : Bool) (w a b : ℕ) (mark : Bool) → option_and_then (λ (x : ℕ). option_and_then (λ (y : ℕ). option_map (λ (z : ℕ). let t : MeetingLine = (x, y, z, m) in t) q) p) o ≡ Some (line_of w a b mark) → (o ≡ Some w) × (p ≡ Some a) × (q ≡ Some b) × (m ≡ mark)
+-- the line with these numbers
+abbrev pub line_of : (w a b : ℕ) → Bool → MeetingLine
+line_of w a b mark = record { worker = w; first = a; second = b; changed = mark }
+
+three_is : (o p q : Option ℕ) (m : Bool) (w a b : ℕ) (mark : Bool) → option_and_then (λ (x : ℕ). option_and_then (λ (y : ℕ). option_map (λ (z : ℕ). line_of x y z m) q) p) o ≡ Some (line_of w a b mark) → (o ≡ Some w) × (p ≡ Some a) × (q ≡ Some b) × (m ≡ mark)
 three_is None p q m w a b mark e = absurd cc
 three_is (Some x) None q m w a b mark e = absurd cc
 three_is (Some x) (Some y) None m w a b mark e = absurd cc
 three_is (Some x) (Some y) (Some z) m w a b mark e =
-    let same : ◌≡◌ {A = MeetingLine} (x, y, z, m) (w, a, b, mark) = cc in
-    (ap (λ (t : MeetingLine). Some t.0) same, ap (λ (t : MeetingLine). Some t.1) same, ap (λ (t : MeetingLine). Some t.2) same, ap (λ (t : MeetingLine). t.3) same)
+    let same : ◌≡◌ {A = MeetingLine} (line_of x y z m) (line_of w a b mark) = cc in
+    (ap (λ (t : MeetingLine). Some t.worker) same, ap (λ (t : MeetingLine). Some t.first) same, ap (λ (t : MeetingLine). Some t.second) same, ap (λ (t : MeetingLine). t.changed) same)
 
 three_spelled : (x y z : List ℕ) (m : Bool) (w a b : ℕ) (mark : Bool) → three_numbers x y z m ≡ Some (line_of w a b mark) → w < 2 ^ 64 → a < 2 ^ 64 → b < 2 ^ 64 → (x ≡ decimal w) × (y ≡ decimal a) × (z ≡ decimal b) × (m ≡ mark)
 three_spelled x y z m w a b mark e lw la lb =
@@ -181,9 +186,12 @@ module _ (kind : RunKind) (spec : RunSpec) (agents : ℕ) (workers : spec.worker
 
   meeting_fits : (rounds : List (List Meeting)) (ms : List Meeting) (line : List ℕ) (next : Reading) (o : Option MeetingLine) → told_in line ≡ o → AreRounds spec agents rounds → IsOpen (length rounds + 1) ms → meeting_told spec agents rounds ms o ≡ Ok (Some next) → Fits next × (told_lines next ≡ told_lines (rounds, Some ms) ++ line ∷ [])
   meeting_fits rounds ms line next None is form h e = absurd cc
-  meeting_fits rounds ms line next (Some (w, a, b, mark)) is form h e =
+  meeting_fits rounds ms line next (Some told) is form h e =
       let k = length rounds + 1 in
-      let m : Meeting = record { worker = w; a = a; b = b; changed = mark } in
+      let m = meeting_of told in
+      let w = told.worker in
+      let a = told.first in
+      let b = told.second in
       let tests = meeting_test (nat_lt w spec.workers && nat_lt (length (meetings_of w ms)) (turns_in spec k)) (not (a == b) && (nat_lt a agents && nat_lt b agents)) (settled spec rounds (ms ++ m ∷ [])) next e in
       let turn = and_parts (nat_lt w spec.workers) (nat_lt (length (meetings_of w ms)) (turns_in spec k)) tests.0 in
       let apart = and_parts (not (a == b)) (nat_lt a agents && nat_lt b agents) tests.1 in
@@ -193,7 +201,7 @@ module _ (kind : RunKind) (spec : RunSpec) (agents : ℕ) (workers : spec.worker
       let lb : b < agents = ltb-true b agents both.1 in
       let range : InRange m = record { different = eqb-false a b (not-true (a == b) apart.0); first = la; second = lb } in
       let more = open_more k ms m h below (ltb-true (length (meetings_of w ms)) (turns_in spec k) turn.1) range in
-      let spelled = told_spelled line w a b mark is (omega (arith, below, workers)) (omega (arith, la, few)) (omega (arith, lb, few)) in
+      let spelled = told_spelled line w a b told.changed is (omega (arith, below, workers)) (omega (arith, la, few)) (omega (arith, lb, few)) in
       let done = settled_fits rounds (ms ++ m ∷ []) form more in
       let lines : told_lines (rounds, Some (ms ++ m ∷ [])) ≡ told_lines (rounds, Some ms) ++ line ∷ [] =
       ap (λ (ls : List (List ℕ)). round_lines 1 rounds ++ (round_line k ∷ ls)) (map-append meeting_line ms (m ∷ []))
@@ -228,7 +236,7 @@ module _ (kind : RunKind) (spec : RunSpec) (agents : ℕ) (workers : spec.worker
 
   no_end_in : (rounds : List (List Meeting)) (ms : List Meeting) (o : Option MeetingLine) → meeting_told spec agents rounds ms o ≡ Ok None → ⊥
   no_end_in rounds ms None e = absurd cc
-  no_end_in rounds ms (Some (w, a, b, mark)) e = no_end _ _ _ e
+  no_end_in rounds ms (Some told) e = no_end _ _ _ e
 
   -- a last round that lacks meetings
   stopped : (rounds : List (List Meeting)) (ms : List Meeting) → AreRounds spec agents rounds → IsOpen (length rounds + 1) ms → AreWatchedRounds spec agents (rounds ++ ms ∷ [])

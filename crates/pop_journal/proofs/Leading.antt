@@ -17,6 +17,7 @@ use Rattle.pop_journal.specs.Journal.{meeting_line}
 use Rattle.pop_journal.proofs.Spelled.{IsSmall, joined_right}
 use Rattle.pop_lines.proofs.Unbroken.{line_first}
 use Rattle.pop_journal.proofs.Feeds.{meeting_unbroken}
+use Rattle.pop_journal.proofs.FormLaws.{line_of}
 use Rattle.pop_journal.proofs.ReadBack.{told_back}
 
 abbrev AreDigits : List ℕ → Type 0
@@ -123,9 +124,9 @@ lead_number text i value h some within small =
 
 -- a line of three numbers and a mark, and what follows it
 pub short_told : (text r s t u v more : List ℕ) (w a b : ℕ) (mark : Bool) → text ≡ decimal w ++ r → r ≡ 32 ∷ s → s ≡ decimal a ++ t → t ≡ 32 ∷ u → u ≡ decimal b ++ v
-    → v ≡ (if mark then codes " *" else []) ++ 10 ∷ more → w < 2 ^ 64 → a < 2 ^ 64 → b < 2 ^ 64 → Tells (lines_of text) (Some (w, a, b, mark)) (lines_of more)
+    → v ≡ (if mark then codes " *" else []) ++ 10 ∷ more → w < 2 ^ 64 → a < 2 ^ 64 → b < 2 ^ 64 → Tells (lines_of text) (Some (line_of w a b mark)) (lines_of more)
 short_told text r s t u v more w a b mark e f g h k l lw la lb =
-    subst (λ (ls : List (List ℕ)). Tells ls (Some (w, a, b, mark)) (lines_of more)) (sym cut) (told_back m small, refl)
+    subst (λ (ls : List (List ℕ)). Tells ls (Some (line_of w a b mark)) (lines_of more)) (sym cut) (told_back m small, refl)
   where
     m : Meeting
     m = record { worker = w; a = a; b = b; changed = mark }

@@ -19,11 +19,12 @@ use Rattle.pop_journal.specs.declared.fault.JournalWhy.{JournalWhy}
 use Rattle.pop_journal.specs.declared.fault.JournalWhy.TheVariants.{Form, Worker, Agents, Round}
 use Rattle.pop_journal.specs.Journal.{round_line, meeting_line, round_lines}
 use Rattle.pop_journal.specs.Rounds.{AreRounds, AreWatchedRounds, AreRoundsOf}
+use Rattle.pop_journal.specs.declared.form.MeetingLine.{MeetingLine}
 use Rattle.pop_journal.specs.Form.{Tells, three_numbers, told_words, told_in, Reading, all_rounds, wanted, settled, meeting_told, ends_inside, line_read, Parts, follow, lines_read}
 use Rattle.pop_journal.specs.ReadLines.{first_ends}
 use Rattle.pop_journal.proofs.Spelled.{IsSmall, meeting_words, mark_words}
 use Rattle.pop_journal.proofs.Counts.{round_most, round_full, round_long}
-use Rattle.pop_journal.proofs.FormLaws.{told_no_end}
+use Rattle.pop_journal.proofs.FormLaws.{line_of, told_no_end}
 use Rattle.pop_journal.proofs.Due.{own_first, own_last, other_last}
 use Rattle.pop_journal.proofs.Holds.{all_parts}
 
@@ -35,7 +36,7 @@ words_back w a b true lw la lb = three_back w a b true lw la lb
 words_back w a b false lw la lb = three_back w a b false lw la lb
 
 -- a meeting line is read as its meeting
-pub told_back : (m : Meeting) → IsSmall m → told_in (meeting_line m) ≡ Some (m.worker, m.a, m.b, m.changed)
+pub told_back : (m : Meeting) → IsSmall m → told_in (meeting_line m) ≡ Some (line_of m.worker m.a m.b m.changed)
 unfolding told_in
 told_back m small = ap told_words (meeting_words m small) ∙ words_back m.worker m.a m.b m.changed small.worker small.a small.b
 
@@ -73,7 +74,7 @@ module _ (kind : RunKind) (spec : RunSpec) (agents : ℕ) (some_worker : 1 ≤ s
       let done : Result (Option Reading) JournalWhy = Ok (Some (settled spec rounds (pre ++ m ∷ []))) in
       let apart = not (m.a == m.b) && (nat_lt m.a agents && nat_lt m.b agents) in
       let told = told_back m small in
-      cond-false (ends_inside kind (meeting_line m)) (Ok None) (meeting_told spec agents rounds pre (told_in (meeting_line m))) (told_no_end kind (meeting_line m) (m.worker, m.a, m.b, m.changed) told)
+      cond-false (ends_inside kind (meeting_line m)) (Ok None) (meeting_told spec agents rounds pre (told_in (meeting_line m))) (told_no_end kind (meeting_line m) (line_of m.worker m.a m.b m.changed) told)
       ∙ ap (meeting_told spec agents rounds pre) told
       ∙ cond-true (nat_lt m.worker spec.workers && nat_lt (length mine) turns) (if apart then done else Err Agents) (Err Worker)
       (and_from (nat_lt m.worker spec.workers) (nat_lt (length mine) turns) (lt-ltb m.worker spec.workers below) (lt-ltb (length mine) turns room))

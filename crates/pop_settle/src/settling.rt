@@ -26,6 +26,13 @@ use pop_io::{Failure, List, NoMemory};
 use pop_net::{Leaf, Net};
 use std::alloc::Global;
 
+/// The leaf of a layer, and its number there.
+#[derive(Clone, Copy)]
+struct LayerPlace {
+    leaf: u8,
+    number: usize,
+}
+
 /// Takes the moves by the proof's layers until none can be taken (layered termination of Blondin, Esparza, Jaax,
 /// Meyer 2017). The definition looks at all leaves and layers each time; this call never goes back to an earlier one.
 pub fn settle(
@@ -86,41 +93,42 @@ fn settle_leaf(
     let mut groups = Groups::of_leaf(alloc, net, walk.words.as_slice(), leaf)?;
     let part = &proof.leaves.as_slice()[leaf as usize];
     for (number, layer) in part.layers.as_slice().iter().enumerate() {
-        settle_layer(alloc, net, proof, (leaf, number), layer, &mut groups, walk)?;
+        let place = LayerPlace { leaf, number };
+        settle_layer(alloc, net, proof, place, layer, &mut groups, walk)?;
     }
     Ok(())
 }
 
-/// Takes the moves of a layer, as long as agents can take one. The place is that of the layer: its leaf and its number.
+/// Takes the moves of the layer in this place, as long as agents can take one.
 fn settle_layer(
     alloc: Global,
     net: &Net,
     proof: &Proof,
-    place: (u8, usize),
+    place: LayerPlace,
     layer: &Layer,
     groups: &mut Groups,
     walk: &mut Walk,
 ) -> Result<(), NoMemory>
     requires formed { IsNet net.now }
     requires layers { HasLayers net.now proof.now }
-    requires leaf_in { place.0 < length net.now.leaves }
-    requires layer_is { IfSome (slice_get proof.now.leaves place.0)
-        (λ part. slice_get part.layers place.1 ≡ Some layer.now) }
+    requires leaf_in { place.leaf < length net.now.leaves }
+    requires layer_is { IfSome (slice_get proof.now.leaves place.leaf)
+        (λ part. slice_get part.layers place.number ≡ Some layer.now) }
     requires valid { AreValid net.now walk.old.words.items }
-    requires count { IfSome (slice_get net.now.leaves place.0) (λ l. length groups.old.groups.items ≡ length l.states) }
-    requires grouped { AreGroups (states_in place.0 (crowd_of net.now walk.old.words.items)) groups.old.groups.items }
-    requires quiet { IsQuietBefore net.now proof.now (crowd_of net.now walk.old.words.items) place.0 place.1 }
+    requires count { IfSome (slice_get net.now.leaves place.leaf) (λ l. length groups.old.groups.items ≡ length l.states) }
+    requires grouped { AreGroups (states_in place.leaf (crowd_of net.now walk.old.words.items)) groups.old.groups.items }
+    requires quiet { IsQuietBefore net.now proof.now (crowd_of net.now walk.old.words.items) place.leaf place.number }
     ensures walked { OnOk result (WalksOn net.now proof.now walk.old walk.new) }
     ensures count { length groups.new.groups.items ≡ length groups.old.groups.items }
     ensures grouped { OnOk result
-        (AreGroups (states_in place.0 (crowd_of net.now walk.new.words.items)) groups.new.groups.items) }
+        (AreGroups (states_in place.leaf (crowd_of net.now walk.new.words.items)) groups.new.groups.items) }
     ensures quiet { OnOk result
-        (IsQuietBefore net.now proof.now (crowd_of net.now walk.new.words.items) place.0 (place.1 + 1)) }
+        (IsQuietBefore net.now proof.now (crowd_of net.now walk.new.words.items) place.leaf (place.number + 1)) }
 {
-    let leaf = net.leaf(place.0);
+    let leaf = net.leaf(place.leaf);
     let moves = layer.moves.as_slice();
     let ends = run_ends(alloc, leaf, moves)?;
-    'takes: while let Some(take) = next_take(leaf, place.0, moves, ends.as_slice(), groups)? {
+    'takes: while let Some(take) = next_take(leaf, place.leaf, moves, ends.as_slice(), groups)? {
         walk.make(net, take)?;
     }
     Ok(())

@@ -54,9 +54,6 @@ pub fn run_tool<R: Threads + Wait + Sync, S: Source, K: Sink, G: Gate>(
     ensures { IsCall S.left S.faults K.holds K.faults (texts_of words.now)
         source.old source.new sink.old sink.new result }
 {
-    if is_plain(words) {
-        return run_plain(alloc, words, source, sink, gate);
-    }
     let output = any_output(rt, alloc, words, source, gate);
     write(sink, output)
 }

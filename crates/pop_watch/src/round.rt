@@ -27,21 +27,14 @@ use std::alloc::Global;
 use std::sync::Wait;
 use std::thread::{Threads, join_mut};
 
-/// The meetings of seats as those of their workers. The observer's seat 0 has none.
-fn by_workers(alloc: Global, meetings: &[Meeting]) -> Result<Vec<Meeting>, NoMemory>
-    requires { All (λ m. 1 ≤ m.worker) meetings.now }
-    ensures { IfOk result (λ own. own.items ≡ map of_worker meetings.now) }
+/// Turns the meetings of seats into those of their workers. The observer's seat 0 has none.
+fn turn_to_workers(meetings: &mut [Meeting])
+    requires { All (λ m. 1 ≤ m.worker) meetings.old }
+    ensures { meetings.new ≡ map of_worker meetings.old }
 {
-    let mut own = Vec::with_capacity(alloc, meetings.len())?;
-    'meetings: for meeting in meetings {
-        own.push(Meeting {
-            worker: meeting.worker - 1,
-            a: meeting.a,
-            b: meeting.b,
-            changed: meeting.changed,
-        })?;
+    'meetings: for meeting in meetings.iter_mut() {
+        meeting.worker -= 1;
     }
-    Ok(own)
 }
 
 /// The observer and all workers, in parallel.
@@ -108,7 +101,8 @@ fn field_round<R: Threads + Wait + Sync, G: Gate>(
     let made = meetings_made(alloc, workers.as_slice())?;
     let (whole, pickers) = take_in(&field, seat, workers, Vec::new(alloc))?;
     let round = field.close_on(alloc, whole, layout)?;
-    let meetings = by_workers(alloc, round.meetings.as_slice())?;
+    let mut meetings = round.meetings.into_vec();
+    turn_to_workers(meetings.as_mut_slice());
     let crowd = Crowd::of_words(run.net, round.words);
     let played = RoundEnd {
         crowd,

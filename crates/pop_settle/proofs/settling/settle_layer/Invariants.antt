@@ -10,9 +10,9 @@ abbrev pub invariant-takes : goal.invariant-takes
 invariant-takes l = record {
   walked : WalksOn l.net l.proof l.fn.walk l.walk;
   count : length l.groups.groups.items ≡ length l.fn.groups.groups.items;
-  grouped : AreGroups (states_in l.place.0 (crowd_of l.net l.walk.words.items)) l.groups.groups.items;
-  quiet : IsQuietBefore l.net l.proof (crowd_of l.net l.walk.words.items) l.place.0 l.place.1;
+  grouped : AreGroups (states_in l.place.leaf (crowd_of l.net l.walk.words.items)) l.groups.groups.items;
+  quiet : IsQuietBefore l.net l.proof (crowd_of l.net l.walk.words.items) l.place.leaf l.place.number;
 }
 
 abbrev pub decreases-takes : goal.decreases-takes
-decreases-takes l = fuel l.layer.weights (states_in l.place.0 (crowd_of l.net l.walk.words.items))
+decreases-takes l = fuel l.layer.weights (states_in l.place.leaf (crowd_of l.net l.walk.words.items))

@@ -63,10 +63,10 @@ take_in-requires g c =
       each = λ i d h. ((made.1 i d [] h).ours, (made.1 i d [] h).numbered);
     }
 
-pub by_workers-requires : goal.by_workers-requires
-by_workers-requires g c =
+pub turn_to_workers-requires : goal.turn_to_workers-requires
+turn_to_workers-requires g c =
     let own : calls 0 c.in_ok-round.round.meetings ≡ [] = c.in_ok-round.ensures.round.own ∙ c.in_ok-whole.ensures.all.own ∙ c.watch_beside.ensures.seat.1.4 ∙ (c.in_ok-reserve_looks.ensures.rest.4 ∙ c.in_ok-field.ensures.opened.fresh.0) in
-    subst (λ (l : List Meeting). All IsOfWorker l) (sym c.as_slice-2.ensures) (all_of_workers 0 c.in_ok-round.round.meetings own)
+    subst (λ (l : List Meeting). All IsOfWorker l) (sym c.as_mut_slice-2.ensures.value) (all_of_workers 0 c.in_ok-round.round.meetings own)
 
 pub of_words-crowd-requires-clause-some : goal.of_words-crowd-requires-clause-some
 of_words-crowd-requires-clause-some g c =
@@ -95,7 +95,7 @@ returns-clause-made g c =
     let meetings = c.in_ok-round.round.meetings in
     let own : calls 0 meetings ≡ [] = closed.own ∙ all.own ∙ c.watch_beside.ensures.seat.1.4 ∙ (c.in_ok-reserve_looks.ensures.rest.4 ∙ c.in_ok-field.ensures.opened.fresh.0) in
     let some = all_of_workers 0 meetings own in
-    let mine : c.in_ok-meetings.meetings.items ≡ map of_worker meetings = c.in_ok-meetings.ensures ∙ ap (map of_worker) c.as_slice-2.ensures in
+    let mine : c.in_ok-meetings.meetings.items ≡ map of_worker meetings = c.in_ok-meetings.ensures ∙ ap (map of_worker) c.as_mut_slice-2.ensures.value in
     let any : Worker = record { seat = c.watch_beside.new.seat; picker = [] } in
     let made : c.in_ok-made.made.items ≡ map (λ (v : Worker). length (log_of v.seat)) new = c.in_ok-made.ensures ∙ ap (map (λ (v : Worker). length (log_of v.seat))) (c.as_slice.ensures.value ∙ list) in (
       ap (length {A = ℕ}) made ∙ length-map new (λ (v : Worker). length (log_of v.seat)) ∙ done.0 ∙ c.requires.round.pickers,
@@ -122,7 +122,7 @@ returns-clause-part g c =
     let meetings = c.in_ok-round.round.meetings in
     let own : calls 0 meetings ≡ [] = closed.own ∙ all.own ∙ c.watch_beside.ensures.seat.1.4 ∙ (c.in_ok-reserve_looks.ensures.rest.4 ∙ c.in_ok-field.ensures.opened.fresh.0) in
     let some = all_of_workers 0 meetings own in
-    let mine : c.in_ok-meetings.meetings.items ≡ map of_worker meetings = c.in_ok-meetings.ensures ∙ ap (map of_worker) c.as_slice-2.ensures in
+    let mine : c.in_ok-meetings.meetings.items ≡ map of_worker meetings = c.in_ok-meetings.ensures ∙ ap (map of_worker) c.as_mut_slice-2.ensures.value in
     let any : Worker = record { seat = c.watch_beside.new.seat; picker = [] } in
     let after = c.in_ok-whole.pickers.items in
     let moved : after ≡ map (λ (v : Worker). v.picker) new = c.in_ok-whole.ensures.pickers ∙ (λ i. c.new.ensures.items i ++ map (λ (v : Worker). v.picker) (list i)) in
