@@ -9,8 +9,8 @@ use Rattle.std.proofs.lemmas.Simd.{map-map}
 use Rattle.cert_base.specs.declared.fact.Fact.{Fact}
 use Rattle.cert_base.specs.declared.fact.Fact.TheVariants.{Eq}
 use Rattle.cert_base.specs.Rows.{single_row, move_variable, state_variable}
-use Rattle.cert_base.specs.FactsAndCases.{indicator, places_from, states_of, is_in, can_meet_in, absent_fact, occurs_fact, alone_fact, not_twice, case_of_twin, no_moves, no_start_facts}
-use Rattle.cert_traps.specs.Facts.{zero_if, alone_if}
+use Rattle.cert_base.specs.FactsAndCases.{indicator, places_from, states_of, is_in, can_meet_in, absent_fact, occurs_fact, alone_fact, not_twice, case_of_twin, no_moves, no_start_facts, is_possible}
+use Rattle.cert_traps.specs.Facts.{zero_if, alone_if, fact_if, case_if}
 use Rattle.cert_traps.specs.Partners.{ArePartners}
 use Rattle.pop_net.specs.declared.limits.TheConstants.{STATE_LIMIT}
 use Rattle.pop_net.specs.declared.leaf.Move.{Move}
@@ -106,9 +106,9 @@ partners_all leaf p q table all e = record {
   each = λ n l. ap (λ (flags : List Bool). get_or flags n false) e ∙ get_or-map-range_with_len (can_meet_in leaf p) 0 q n n false (let m : n < q = omega (arith, all) in m) (zero-add n);
 }
 
-filter-one : (test : ℕ → Bool) (xs : List ℕ) (x : ℕ) → filter test (xs ++ x ∷ []) ≡ filter test xs ++ (if test x then (x ∷ []) else [])
+filter-one : {A : Type 0} (test : A → Bool) (xs : List A) (x : A) → filter test (xs ++ x ∷ []) ≡ filter test xs ++ (if test x then (x ∷ []) else [])
 filter-one test [] x = refl
-filter-one test (y ∷ xs) x = go (test y) (filter-one test xs x)
+filter-one {A} test (y ∷ xs) x = go (test y) (filter-one test xs x)
   where
     go : (b : Bool) → filter test (xs ++ x ∷ []) ≡ filter test xs ++ (if test x then (x ∷ []) else []) → cond b (y ∷ filter test (xs ++ x ∷ [])) (filter test (xs ++ x ∷ [])) ≡ cond b (y ∷ filter test xs) (filter test xs) ++ (if test x then (x ∷ []) else [])
     go true e = ap (λ zs. y ∷ zs) e
@@ -161,3 +161,31 @@ three_cases empty one two three a b c a' b' c' e f g h i j k =
 
 pub twin_as : (leaf : LeafModel) (p : ℕ) (b : Bool) → b ≡ can_meet_in leaf p p → (if b then Some (not_twice leaf p ∷ []) else None) ≡ case_of_twin leaf p
 twin_as leaf p b e = ap (λ b. if b then Some (not_twice leaf p ∷ []) else None) e
+
+-- ---- items that pass a test
+
+-- one more item is asked
+pub filter_more : {A : Type 0} (test : A → Bool) (xs : List A) (k : ℕ) (x : A) → slice_get xs k ≡ Some x → filter test (take (k + 1) xs) ≡ filter test (take k xs) ++ (if test x then (x ∷ []) else [])
+filter_more test xs k x h =
+    ap (filter test) (take_one_more xs k x h) ∙ filter-one test (take k xs) x
+
+pub kept_more : (test : Fact → Bool) (facts : List Fact) (k : ℕ) (fact : Fact) (start before after : List Fact) → slice_get facts k ≡ Some fact → before ≡ start ++ filter test (take k facts) → after ≡ before ++ fact_if fact (test fact) → after ≡ start ++ filter test (take (k + 1) facts)
+kept_more test facts k fact start before after h b e =
+    e
+    ∙ ap (λ fs. fs ++ fact_if fact (test fact)) b
+    ∙ append_assoc start (filter test (take k facts)) (fact_if fact (test fact))
+    ∙ ap (λ fs. start ++ fs) (sym (filter_more test facts k fact h))
+
+pub kept_all : (test : Fact → Bool) (facts : List Fact) (k : ℕ) (start kept : List Fact) → length facts ≤ k → kept ≡ start ++ filter test (take k facts) → kept ≡ start ++ filter test facts
+kept_all test facts k start kept l e = e ∙ ap (λ fs. start ++ filter test fs) (take_all k facts l)
+
+pub cases_more : (leaf : LeafModel) (test : Move → Bool) (k : ℕ) (t : Move) (before after : List (List Fact)) → slice_get leaf.moves k ≡ Some t → before ≡ map (is_possible leaf) (filter test (take k leaf.moves)) → after ≡ before ++ case_if leaf t (test t) → after ≡ map (is_possible leaf) (filter test (take (k + 1) leaf.moves))
+cases_more leaf test k t before after h b e =
+    e
+    ∙ ap (λ cases. cases ++ case_if leaf t (test t)) b
+    ∙ ap (λ cases. map (is_possible leaf) (filter test (take k leaf.moves)) ++ cases) (one (test t))
+    ∙ sym (ap (map (is_possible leaf)) (filter_more test leaf.moves k t h) ∙ map-append (is_possible leaf) (filter test (take k leaf.moves)) (if test t then (t ∷ []) else []))
+  where
+    one : (b : Bool) → case_if leaf t b ≡ map (is_possible leaf) (if b then (t ∷ []) else [])
+    one true = refl
+    one false = refl

@@ -82,7 +82,8 @@ fn absence_of(alloc: Global, leaf: &Leaf, q: u16) -> Result<Fact, NoMemory>
     is_zero(alloc, variable_of_state(leaf, q))
 }
 
-fn presence_of(alloc: Global, leaf: &Leaf, q: u16) -> Result<Fact, NoMemory>
+/// The state occurs.
+pub(crate) fn presence_of(alloc: Global, leaf: &Leaf, q: u16) -> Result<Fact, NoMemory>
     ensures { IfOk result (λ fact. fact ≡ occurs_fact leaf.now q) }
 {
     Ok(Fact::Ge(Row::single(alloc, variable_of_state(leaf, q), 1, -1)?))

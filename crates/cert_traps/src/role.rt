@@ -19,6 +19,8 @@ pub(crate) enum Role {
     Leaves,
     /// It puts into the set and doesn't take from it.
     Enters,
+    /// It takes from the set or puts into it.
+    Touches,
 }
 
 /// For each move whether it has the role.
@@ -38,7 +40,8 @@ pub(crate) fn move_flags(
     Ok(flags)
 }
 
-fn passes(set: &StateSet, taken: Move, role: Role) -> bool
+/// Whether a move has the role.
+pub(crate) fn passes(set: &StateSet, taken: Move, role: Role) -> bool
     requires { IsMoveBelow STATE_LIMIT taken }
     ensures { result ≡ passes_role set.now role taken }
 {
@@ -49,5 +52,6 @@ fn passes(set: &StateSet, taken: Move, role: Role) -> bool
         Role::Puts => puts,
         Role::Leaves => takes && !puts,
         Role::Enters => puts && !takes,
+        Role::Touches => takes || puts,
     }
 }

@@ -4,7 +4,7 @@ ghost use Rattle.std.specs.Prelude.{◌≡◌, ◌++◌, ◌∷◌, [], pos, ◌
 ghost use Rattle.pop_net.specs.LeafModel.{IsLeaf};
 ghost use Rattle.cert_base.specs.declared.fact.Fact.TheVariants.{Ge, Eq};
 ghost use Rattle.cert_base.specs.Rows.{input_row};
-ghost use Rattle.cert_base.specs.FactsAndCases.{indicator, is_in, helpers_among, takes_from, no_moves};
+ghost use Rattle.cert_base.specs.FactsAndCases.{indicator, is_in, helpers_among, no_moves};
 ghost use Rattle.cert_base.specs.FactsAndCases.{some_taken_fact, count_row, cases_of_siphon};
 ghost use Rattle.cert_base.specs.Ends.{CoverEach, AreCasesBy};
 ghost use Rattle.cert_traps.specs.Roles.{passes_role};
@@ -42,7 +42,7 @@ fn cases_of(alloc: Global, leaf: &Leaf, set: &StateSet) -> Result<List<List<Fact
     let mut cases = Vec::new(alloc);
     cases.push(some_entered(alloc, leaf, set)?)?;
     cases.push(only(alloc, some_started(alloc, leaf, set)?)?)?;
-    cases.push(never_marked(alloc, leaf, set)?)?;
+    cases.push(none_inside(alloc, leaf, set, Role::Takes)?)?;
     Ok(List::from_vec(cases))
 }
 
@@ -55,7 +55,7 @@ fn some_entered(alloc: Global, leaf: &Leaf, set: &StateSet) -> Result<List<Fact>
 }
 
 /// Some input starts in the set, or a helper is in it.
-fn some_started(alloc: Global, leaf: &Leaf, set: &StateSet) -> Result<Fact, NoMemory>
+pub(crate) fn some_started(alloc: Global, leaf: &Leaf, set: &StateSet) -> Result<Fact, NoMemory>
     ensures { IfOk result
         (λ fact. fact ≡ Ge (input_row (map (λ start. indicator (is_in set.now start)) leaf.now.inputs)
         (pos (helpers_among leaf.now set.now) -ℤ pos 1))) }
@@ -65,13 +65,20 @@ fn some_started(alloc: Global, leaf: &Leaf, set: &StateSet) -> Result<Fact, NoMe
     Ok(Fact::Ge(Row::over_inputs(alloc, coefs.as_slice(), i64::from(set.helpers(leaf)) - 1)?))
 }
 
-fn never_marked(alloc: Global, leaf: &Leaf, set: &StateSet) -> Result<List<Fact>, NoMemory>
+/// No move with the role was taken, and nobody is in the set.
+pub(crate) fn none_inside(
+    alloc: Global,
+    leaf: &Leaf,
+    set: &StateSet,
+    role: Role,
+) -> Result<List<Fact>, NoMemory>
     requires { IsLeaf leaf.now }
     ensures { IfOk result
-        (λ facts. facts ≡ no_moves leaf.now (takes_from set.now) ++ Eq (count_row leaf.now set.now (pos 0)) ∷ []) }
+        (λ facts. facts
+        ≡ no_moves leaf.now (passes_role set.now role) ++ Eq (count_row leaf.now set.now (pos 0)) ∷ []) }
 {
     let mut facts = Vec::new(alloc);
-    none_taken(alloc, &mut facts, leaf, set, Role::Takes)?;
+    none_taken(alloc, &mut facts, leaf, set, role)?;
     facts.push(Fact::Eq(count_in(alloc, leaf, set, 0)?))?;
     Ok(List::from_vec(facts))
 }

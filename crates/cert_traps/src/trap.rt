@@ -61,11 +61,28 @@ fn never_marked(alloc: Global, leaf: &Leaf, set: &StateSet) -> Result<List<Fact>
         ++ Eq (count_row leaf.now set.now (pos 0)) ∷ no_helper_facts leaf.now set.now) }
 {
     let mut facts = Vec::new(alloc);
-    none_taken(alloc, &mut facts, leaf, set, Role::Puts)?;
-    none_started(alloc, &mut facts, leaf, set)?;
-    facts.push(Fact::Eq(count_in(alloc, leaf, set, 0)?))?;
-    none_helps(alloc, &mut facts, leaf, set)?;
+    none_there(alloc, &mut facts, leaf, set, Role::Puts)?;
     Ok(List::from_vec(facts))
+}
+
+/// Adds that no move with the role was taken, nobody started in the set, and nobody is in it.
+pub(crate) fn none_there(
+    alloc: Global,
+    facts: &mut Vec<Fact>,
+    leaf: &Leaf,
+    set: &StateSet,
+    role: Role,
+) -> Result<(), NoMemory>
+    requires { IsLeaf leaf.now }
+    ensures { OnOk result (facts.new.items ≡ facts.old.items ++ no_moves leaf.now (passes_role set.now role)
+        ++ no_start_facts leaf.now set.now
+        ++ Eq (count_row leaf.now set.now (pos 0)) ∷ no_helper_facts leaf.now set.now) }
+{
+    none_taken(alloc, facts, leaf, set, role)?;
+    none_started(alloc, facts, leaf, set)?;
+    facts.push(Fact::Eq(count_in(alloc, leaf, set, 0)?))?;
+    none_helps(alloc, facts, leaf, set)?;
+    Ok(())
 }
 
 /// A move with the role was taken.

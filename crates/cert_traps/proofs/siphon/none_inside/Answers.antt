@@ -1,7 +1,7 @@
 use Rattle.std.proofs.Common.{◌≡◌, ◌∙◌, List, [], ◌∷◌, ◌++◌, ap}
 use Rattle.cert_base.specs.declared.fact.Fact.{Fact}
 use Rattle.cert_base.specs.declared.fact.Fact.TheVariants.{Eq}
-use Rattle.cert_traps.proofs.siphon.never_marked.Goals as goal
+use Rattle.cert_traps.proofs.siphon.none_inside.Goals as goal
 
 -- what was added piece by piece
 joined : (empty taken all xs : List Fact) (f g : Fact) → empty ≡ [] → taken ≡ empty ++ xs → all ≡ taken ++ f ∷ [] → f ≡ g → all ≡ xs ++ g ∷ []
