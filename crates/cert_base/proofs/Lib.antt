@@ -11,6 +11,7 @@ pub mod Equations
 pub mod FlowFacts
 pub mod Indicators
 pub mod InRange
+pub mod Executions
 pub mod WrongEnds
 pub mod Openings
 pub mod Combined

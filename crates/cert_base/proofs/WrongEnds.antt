@@ -20,10 +20,11 @@ use Rattle.cert_base.specs.Ends.{IsEndFor, HoldAtWrongEnds}
 use Rattle.cert_base.specs.GoalEnds.{HasOutside, HoldAtOutsideEnds}
 use Rattle.cert_base.specs.Parts.{input_list}
 use Rattle.cert_base.proofs.Dead.{one_there}
-use Rattle.cert_base.proofs.FlowFacts.{dot, terms_value-terms_from, flow_met}
+use Rattle.cert_base.proofs.Executions.{flows_met}
+use Rattle.cert_base.proofs.FlowFacts.{dot, terms_value-terms_from}
 use Rattle.cert_base.proofs.Indicators.{sum_if, row_value-behind, sum_if-none}
 use Rattle.cert_base.proofs.InRange.{end_in_range}
-use Rattle.list_laws.proofs.Ranges.{get-range, all_range}
+use Rattle.list_laws.proofs.Ranges.{get-range}
 
 -- the state z of the range
 pub range_get : (n z : ℕ) → z < n → slice_get (range_with_len 0 n) z ≡ Some z
@@ -58,12 +59,6 @@ module _ (leaf dead : LeafModel) (p : PredModel) (value : Bool) (count : Valuati
   inputs_are j l =
       ap count (zero-add j) ∙ end.execution.inputs j (let m : j < length leaf.inputs = omega (arith, end.input.one_each, l) in m)
 
-  flows_met : All (MeetsFact count) (map (flow leaf) (states_of leaf))
-  flows_met =
-      All-map (MeetsFact count) (flow leaf) (states_of leaf)
-      (all_range (λ q. MeetsFact count (flow leaf q)) 0 (length leaf.states)
-      (λ q a l. flow_met leaf count end.counts end.path end.end end.way end.input.one_each end.execution q (let m : q < length leaf.states = omega arith in m)))
-
   two_met : MeetsFact count (two_agents_fact leaf)
   two_met =
       let terms = terms_value-terms_from count 0 (replicate (length leaf.inputs) (pos 1)) in
@@ -79,7 +74,7 @@ module _ (leaf dead : LeafModel) (p : PredModel) (value : Bool) (count : Valuati
 
   inputs_met : All (MeetsFact count) (input_list leaf p value)
   inputs_met =
-      All-append (MeetsFact count) (map (flow leaf) (states_of leaf)) (two_agents_fact leaf ∷ Holds p value ∷ []) flows_met
+      All-append (MeetsFact count) (map (flow leaf) (states_of leaf)) (two_agents_fact leaf ∷ Holds p value ∷ []) (flows_met leaf count end.counts end.path end.end end.way end.input.one_each end.execution)
       (All-cons (MeetsFact count) (two_agents_fact leaf) (Holds p value ∷ []) two_met (All-cons (MeetsFact count) (Holds p value) [] holds_met (All-nil (MeetsFact count))))
 
   -- an agent is in a state that passes a test

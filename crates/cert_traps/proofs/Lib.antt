@@ -3,4 +3,5 @@ pub mod PresentEnds
 pub mod TakenMoves
 pub mod TrapEnds
 pub mod SiphonEnds
+pub mod FirstEnds
 pub mod Covers

@@ -66,7 +66,7 @@ one_times n = pos-*ℤ-pos 1 n ∙ ap pos (let e : 1 * n ≡ n = omega arith in 
 absent_met : (leaf : LeafModel) (count : Valuation) (q : ℕ) → count (state_variable leaf q) ≡ 0 → MeetsFact count (absent_fact leaf q)
 absent_met leaf count q e = let o = one_times (count (state_variable leaf q)) in omega (arith, ints, o, e)
 
-occurs_met : (leaf : LeafModel) (count : Valuation) (q : ℕ) → 1 ≤ count (state_variable leaf q) → MeetsFact count (occurs_fact leaf q)
+pub occurs_met : (leaf : LeafModel) (count : Valuation) (q : ℕ) → 1 ≤ count (state_variable leaf q) → MeetsFact count (occurs_fact leaf q)
 occurs_met leaf count q l = let o = one_times (count (state_variable leaf q)) in omega (arith, ints, o, l)
 
 alone_met : (leaf : LeafModel) (count : Valuation) (q : ℕ) → count (state_variable leaf q) ≡ 1 → MeetsFact count (alone_fact leaf q)

@@ -30,30 +30,30 @@ use Rattle.cert_traps.proofs.TakenMoves.{sum_zero, taken_fails, others_untaken, 
 use Rattle.cert_traps.proofs.TrapEnds.{takes_none, bit}
 
 -- no agent is in a state of the set
-abbrev NoneInside : List ℕ → List ℕ → Type 0
+abbrev pub NoneInside : List ℕ → List ℕ → Type 0
 NoneInside set crowd = All (λ q. is_in set q ≡ false) crowd
 
 -- a move that puts into the set and takes nothing from it
 abbrev pub enters_set : List ℕ → Move → Bool
 enters_set set t = puts_into set t && not (takes_from set t)
 
-takes_by : (set : List ℕ) (t : Move) (x y x' y' : ℕ) → Follows t x y x' y' ⊎ Follows t y x y' x' → is_in set x ≡ false → is_in set y ≡ false → takes_from set t ≡ false
+pub takes_by : (set : List ℕ) (t : Move) (x y x' y' : ℕ) → Follows t x y x' y' ⊎ Follows t y x y' x' → is_in set x ≡ false → is_in set y ≡ false → takes_from set t ≡ false
 takes_by set t x y x' y' (inl f) e g = or_from _ _ (ap (is_in set) (sym f.0) ∙ e) (ap (is_in set) (sym f.1) ∙ g)
 takes_by set t x y x' y' (inr f) e g = or_from _ _ (ap (is_in set) (sym f.0) ∙ g) (ap (is_in set) (sym f.1) ∙ e)
 
-both_outside : (set : List ℕ) (t : Move) (x y x' y' : ℕ) → Follows t x y x' y' ⊎ Follows t y x y' x' → puts_into set t ≡ false → (is_in set x' ≡ false) × (is_in set y' ≡ false)
+pub both_outside : (set : List ℕ) (t : Move) (x y x' y' : ℕ) → Follows t x y x' y' ⊎ Follows t y x y' x' → puts_into set t ≡ false → (is_in set x' ≡ false) × (is_in set y' ≡ false)
 both_outside set t x y x' y' (inl f) e = (ap (is_in set) f.2 ∙ (or_parts _ _ e).0, ap (is_in set) f.3 ∙ (or_parts (is_in set t.r) _ e).1)
 both_outside set t x y x' y' (inr f) e = (ap (is_in set) f.3 ∙ (or_parts (is_in set t.r) _ e).1, ap (is_in set) f.2 ∙ (or_parts _ _ e).0)
 
 module _ (leaf : LeafModel) (set : List ℕ) (before after : List ℕ) (s : LeafStep leaf before after) (none : NoneInside set before) where
-  x_outside : is_in set s.x ≡ false
+  pub x_outside : is_in set s.x ≡ false
   x_outside = All-slice_get (λ (q : ℕ). is_in set q ≡ false) before s.a s.x none s.a_had
 
-  y_outside : is_in set s.y ≡ false
+  pub y_outside : is_in set s.y ≡ false
   y_outside = All-slice_get (λ (q : ℕ). is_in set q ≡ false) before s.b s.y none s.b_had
 
   -- if neither agent goes into the set, nobody is in it
-  nobody_after : (is_in set s.x' ≡ false) × (is_in set s.y' ≡ false) → NoneInside set after
+  pub nobody_after : (is_in set s.x' ≡ false) × (is_in set s.y' ≡ false) → NoneInside set after
   nobody_after e =
       subst (λ (c : List ℕ). NoneInside set c) (sym s.others_stay)
       (All-set (λ (q : ℕ). is_in set q ≡ false) (slice_set before s.a s.x') s.b s.y' e.1 (All-set (λ (q : ℕ). is_in set q ≡ false) before s.a s.x' e.0 none))
@@ -129,11 +129,11 @@ module _ (leaf : LeafModel) (set : List ℕ) (count : Valuation) (counts : List 
       sym (is.inputs i m) ∙ ap count (sym (zero-add i)) ∙ sum_if-none count (is_in set) 0 leaf.inputs e i (slice_index leaf.inputs i) there (ap (λ j. is_in set (slice_index leaf.inputs j)) (sym (zero-add i)) ∙ h))
 
   -- if no input of the set is counted and no helper is in it, nobody starts in it
-  none_at_start : sum_if count (is_in set) 0 leaf.inputs ≡ 0 → helpers_among leaf set ≡ 0 → NoneInside set (leaf_input_crowd leaf counts)
+  pub none_at_start : sum_if count (is_in set) 0 leaf.inputs ≡ 0 → helpers_among leaf set ≡ 0 → NoneInside set (leaf_input_crowd leaf counts)
   none_at_start e none =
       All-append (λ (q : ℕ). is_in set q ≡ false) (starts_from (λ variable. slice_index leaf.inputs variable) 0 counts) leaf.helpers (given_outside e) (none_pass (is_in set) leaf.helpers none)
 
-  none_counted : NoneInside set end → sum_if count (is_in set) (length leaf.inputs) (states_of leaf) ≡ 0
+  pub none_counted : NoneInside set end → sum_if count (is_in set) (length leaf.inputs) (states_of leaf) ≡ 0
   none_counted none =
       sum_if-zero count (is_in set) (length leaf.inputs) (states_of leaf)
       (λ j q h e. let state = range_state j q h in
@@ -146,23 +146,38 @@ module _ (leaf : LeafModel) (set : List ℕ) (count : Valuation) (counts : List 
           let same : q ≡ j = cc in
           (omega (arith, within, same), same)
 
+  pub empty_met : NoneInside set end → MeetsFact count (Eq (count_row leaf set (pos 0)))
+  empty_met none =
+      let row = row_value-behind count (is_in set) (length leaf.inputs) (states_of leaf) (pos 0) in
+      let zero_sum = none_counted none in
+      omega (arith, ints, row, zero_sum)
+
   abbrev first_case : List Fact
   first_case = some_taken_fact leaf (enters_set set) ∷ []
 
-  abbrev second_case : List Fact
+  abbrev pub second_case : List Fact
   second_case = Ge (input_row (map (λ start. indicator (is_in set start)) leaf.inputs) (pos (helpers_among leaf set) -ℤ pos 1)) ∷ []
+
+  pub second_met : 0 < sum_if count (is_in set) 0 leaf.inputs + helpers_among leaf set → All (MeetsFact count) second_case
+  second_met l =
+      let terms = terms_value-terms_from count 0 (map (λ start. indicator (is_in set start)) leaf.inputs) in
+      let sum = dot-indicators count (is_in set) 0 leaf.inputs in
+      All-cons (MeetsFact count) (Ge (input_row (map (λ start. indicator (is_in set start)) leaf.inputs) (pos (helpers_among leaf set) -ℤ pos 1))) [] (omega (arith, ints, terms, sum, l)) (All-nil (MeetsFact count))
 
   abbrev third_case : List Fact
   third_case = no_moves leaf (takes_from set) ++ Eq (count_row leaf set (pos 0)) ∷ []
+
+  -- if nobody is in the set, and no move that passes a test was taken
+  pub outside_met : (test : Move → Bool) → NoneInside set end → ((n : ℕ) (t : Move) → slice_get leaf.moves n ≡ Some t → test t ≡ true → times_taken leaf n (leaf_input_crowd leaf counts) path end way ≡ 0) → All (MeetsFact count) (no_moves leaf test ++ Eq (count_row leaf set (pos 0)) ∷ [])
+  outside_met test none untaken =
+      All-append (MeetsFact count) (no_moves leaf test) (Eq (count_row leaf set (pos 0)) ∷ []) (untaken_met leaf count test (λ n. times_taken leaf n (leaf_input_crowd leaf counts) path end way) is.moves untaken)
+      (All-cons (MeetsFact count) (Eq (count_row leaf set (pos 0))) [] (empty_met none) (All-nil (MeetsFact count)))
 
   third_met : sum_if count (enters_set set) places leaf.moves ≡ 0 → sum_if count (is_in set) 0 leaf.inputs + helpers_among leaf set ≡ 0 → All (MeetsFact count) third_case
   third_met e f =
       let given = sum_zero (sum_if count (is_in set) 0 leaf.inputs) (helpers_among leaf set) f in
       let on = way_on leaf set (leaf_input_crowd leaf counts) path end way (none_at_start given.0 given.1) (not_entered e) in
-      let row = row_value-behind count (is_in set) (length leaf.inputs) (states_of leaf) (pos 0) in
-      let zero_sum = none_counted on.0 in
-      All-append (MeetsFact count) (no_moves leaf (takes_from set)) (Eq (count_row leaf set (pos 0)) ∷ []) (untaken_met leaf count (takes_from set) (λ n. times_taken leaf n (leaf_input_crowd leaf counts) path end way) is.moves on.1)
-      (All-cons (MeetsFact count) (Eq (count_row leaf set (pos 0))) [] (omega (arith, ints, row, zero_sum)) (All-nil (MeetsFact count)))
+      outside_met (takes_from set) on.0 on.1
 
   -- the counts of an execution meet all facts of one of the cases
   pub siphon_met : MeetsOne count (cases_of_siphon leaf set)
@@ -170,9 +185,7 @@ module _ (leaf : LeafModel) (set : List ℕ) (count : Valuation) (counts : List 
     where
       second : sum_if count (enters_set set) places leaf.moves ≡ 0 → (0 < sum_if count (is_in set) 0 leaf.inputs + helpers_among leaf set) ⊎ (sum_if count (is_in set) 0 leaf.inputs + helpers_among leaf set ≤ 0) → MeetsOne count (cases_of_siphon leaf set)
       second e (inl l) =
-          let terms = terms_value-terms_from count 0 (map (λ start. indicator (is_in set start)) leaf.inputs) in
-          let sum = dot-indicators count (is_in set) 0 leaf.inputs in
-          in_rest count first_case (second_case ∷ third_case ∷ []) (in_first count second_case (third_case ∷ []) (All-cons (MeetsFact count) (Ge (input_row (map (λ start. indicator (is_in set start)) leaf.inputs) (pos (helpers_among leaf set) -ℤ pos 1))) [] (omega (arith, ints, terms, sum, l)) (All-nil (MeetsFact count))))
+          in_rest count first_case (second_case ∷ third_case ∷ []) (in_first count second_case (third_case ∷ []) (second_met l))
       second e (inr l) =
           in_rest count first_case (second_case ∷ third_case ∷ []) (in_rest count second_case (third_case ∷ []) (in_first count third_case [] (third_met e (let f : sum_if count (is_in set) 0 leaf.inputs + helpers_among leaf set ≡ 0 = omega (arith, l) in f))))
 

@@ -169,7 +169,7 @@ module _ (leaf : LeafModel) (set : List ℕ) (count : Valuation) (counts : List 
           let counted = is.states x below in
           absurd (omega (arith, none, there, one, counted))
 
-  not_started : NoneIn set (leaf_input_crowd leaf counts) → All (MeetsFact count) (no_start_facts leaf set)
+  pub not_started : NoneIn set (leaf_input_crowd leaf counts) → All (MeetsFact count) (no_start_facts leaf set)
   not_started none =
       All-map (MeetsFact count) (λ i. Eq (single_row (input_variable leaf i) (pos 1) (pos 0))) _
       (all_places (λ i. MeetsFact count (Eq (single_row (input_variable leaf i) (pos 1) (pos 0)))) (is_in set) 0 leaf.inputs
@@ -189,7 +189,7 @@ module _ (leaf : LeafModel) (set : List ℕ) (count : Valuation) (counts : List 
   abbrev second_case : List Fact
   second_case = no_moves leaf (puts_into set) ++ no_start_facts leaf set ++ Eq (count_row leaf set (pos 0)) ∷ no_helper_facts leaf set
 
-  not_helped : NoneIn set (leaf_input_crowd leaf counts) → All (MeetsFact count) (no_helper_facts leaf set)
+  pub not_helped : NoneIn set (leaf_input_crowd leaf counts) → All (MeetsFact count) (no_helper_facts leaf set)
   not_helped none =
       let zero_helpers : (helpers_among leaf set == 0) ≡ true = eq-eqb (helpers_among leaf set) 0 (helps-none leaf set counts none) in
       subst (λ (b : Bool). All (MeetsFact count) (if b then [] else (Eq (constant_row (pos (helpers_among leaf set))) ∷ []))) (sym zero_helpers) (All-nil (MeetsFact count))

@@ -27,6 +27,8 @@ pub fn first_cases(
     set: &List<u16>,
 ) -> Result<List<List<Fact>>, NoMemory>
     ensures cases { IfOk result (λ cases. cases ≡ cases_of_first leaf.now set.now) }
+    // Every end meets all facts of one of them, or the set was entered.
+    ensures cover { IfOk result (λ cases. CoverFirst leaf.now set.now) }
 {
     let set = StateSet::new(alloc, set)?;
     // What the invariant says is known from here on.
