@@ -7,7 +7,7 @@ ghost use Rattle.cert_layers.specs.Search.{some_move};
 ghost use Rattle.cert_goals.specs.Stays.{takes_within, leads_out, escapes};
 ghost use Rattle.cert_goals.specs.SetTests.{is_silent_move, is_unguarded};
 
-use crate::members::Members;
+use cert_traps::StateSet;
 use pop_io::NoMemory;
 use pop_net::{Leaf, Move, STATE_LIMIT};
 use std::alloc::Global;
@@ -16,7 +16,7 @@ use std::alloc::Global;
 pub(crate) fn escapes_of(
     alloc: Global,
     leaf: &Leaf,
-    members: &Members,
+    members: &StateSet,
 ) -> Result<Vec<u32>, NoMemory>
     requires { IsLeaf leaf.now }
     ensures { IfOk result (λ numbers. numbers.items ≡ escapes leaf.now members.now) }
@@ -28,7 +28,7 @@ pub(crate) fn escapes_of(
 }
 
 /// The least of them that is silent among the kept moves.
-pub(crate) fn first_unguarded(leaf: &Leaf, kept: &Leaf, members: &Members) -> Option<u32>
+pub(crate) fn first_unguarded(leaf: &Leaf, kept: &Leaf, members: &StateSet) -> Option<u32>
     requires formed { IsLeaf leaf.now }
     requires same { length kept.now.moves ≡ length leaf.now.moves }
     ensures { result ≡ first_below (length leaf.now.moves) (is_unguarded leaf.now kept.now members.now) }
@@ -36,7 +36,7 @@ pub(crate) fn first_unguarded(leaf: &Leaf, kept: &Leaf, members: &Members) -> Op
     (0..leaf.move_count()).find(|t| is_unguarded_at(leaf, kept, members, *t))
 }
 
-fn is_unguarded_at(leaf: &Leaf, kept: &Leaf, members: &Members, t: u32) -> bool
+fn is_unguarded_at(leaf: &Leaf, kept: &Leaf, members: &StateSet, t: u32) -> bool
     requires formed { IsLeaf leaf.now }
     requires same { length kept.now.moves ≡ length leaf.now.moves }
     requires in_range { t < length leaf.now.moves }
@@ -55,7 +55,7 @@ pub(crate) fn is_silent_at(leaf: &Leaf, t: u32) -> bool
 }
 
 /// Whether a move takes two states of the set.
-pub(crate) fn is_between(members: &Members, taken: Move) -> bool
+pub(crate) fn is_between(members: &StateSet, taken: Move) -> bool
     requires { IsMoveBelow STATE_LIMIT taken }
     ensures { result ≡ takes_within members.now taken }
 {
@@ -63,7 +63,7 @@ pub(crate) fn is_between(members: &Members, taken: Move) -> bool
 }
 
 /// Whether the move with this number leads out of the set.
-fn is_escape(leaf: &Leaf, members: &Members, t: u32) -> bool
+fn is_escape(leaf: &Leaf, members: &StateSet, t: u32) -> bool
     requires formed { IsLeaf leaf.now }
     requires in_range { t < length leaf.now.moves }
     ensures { result ≡ some_move (leads_out members.now) (slice_get leaf.now.moves t) }
@@ -72,7 +72,7 @@ fn is_escape(leaf: &Leaf, members: &Members, t: u32) -> bool
     !taken.is_silent() && leads_out_of(members, taken)
 }
 
-fn leads_out_of(members: &Members, taken: Move) -> bool
+fn leads_out_of(members: &StateSet, taken: Move) -> bool
     requires { IsMoveBelow STATE_LIMIT taken }
     ensures { result ≡ leads_out members.now taken }
 {

@@ -1,5 +1,5 @@
 //! Goals: layers of some moves of a leaf, sets of states that stay once all agents are in them, and a tree.
-//! It stands on `pop_hushed`, `cert_layers` and `cert_tree`.
+//! It stands on `pop_hushed`, `cert_layers`, `cert_traps` and `cert_tree`.
 //! The layer above uses: `check_goal` accepts exactly valid goals, and `valid_goals_hold` says what they give.
 #![tactic(auto)]
 
@@ -9,7 +9,6 @@ mod goal;
 mod law;
 mod layers;
 mod listed;
-mod members;
 mod outputs;
 mod sets;
 mod sleep;
@@ -20,4 +19,5 @@ pub use fault::{GoalWhy, SetFault};
 pub use goal::check_goal;
 pub use law::{facts_without_sets, goals_hold, valid_goals_hold};
 pub use layers::check_some_layers;
+pub use listed::listed_moves;
 pub use sets::check_sets;

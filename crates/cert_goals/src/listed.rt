@@ -7,7 +7,7 @@ use cert_base::Layer;
 use std::alloc::{AllocError, Global};
 
 /// All numbers of moves that the layers list, in order.
-pub(crate) fn listed_moves(alloc: Global, layers: &[Layer]) -> Result<Vec<u32>, AllocError>
+pub fn listed_moves(alloc: Global, layers: &[Layer]) -> Result<Vec<u32>, AllocError>
     ensures { IfOk result (λ moves. moves.items ≡ moves_of_layers layers.now) }
 {
     let mut moves = Vec::new(alloc);

@@ -10,10 +10,10 @@ ghost use Rattle.cert_goals.specs.SetFaults.{AreGoodSets, AreBadBy};
 
 use crate::fault::SetFault;
 use crate::listed::listed_moves;
-use crate::members::Members;
 use crate::outputs::first_other;
 use crate::stay::{is_settled, left_by};
 use cert_base::Layer;
+use cert_traps::StateSet;
 use pop_hushed::hushed_leaf;
 use pop_io::{Failure, List};
 use pop_net::Leaf;
@@ -96,7 +96,7 @@ fn check_stay(
     ensures good { OnOk result (IsGoodSet leaf.now moves.now value set.now) }
     ensures fault { IfFault result (IsBadBy leaf.now moves.now value number set.now) }
 {
-    let members = Members::new(alloc, set)?;
+    let members = StateSet::new(alloc, set)?;
     let Some(fault) = left_by(alloc, leaf, moves, kept, &members, number)? else {
         return Ok(());
     };

@@ -8,13 +8,13 @@ ghost use Rattle.cert_goals.specs.Stays.{takes_within};
 ghost use Rattle.cert_goals.specs.SetTests.{is_silent_move, wakes_awake, wakes_one, FindsWoken};
 
 use crate::escape::{is_between, is_silent_at};
-use crate::members::Members;
 use crate::wake::{is_rest_in, may_wake, wakes};
+use cert_traps::StateSet;
 use pop_net::{Leaf, Move, STATE_LIMIT};
 
 /// The least move between two agents of the set that isn't to sleep and wakes one that is, and the least that it wakes.
 /// The moves that are to sleep are those of `awake`, which has all others silent.
-pub(crate) fn first_woken(leaf: &Leaf, awake: &Leaf, members: &Members) -> Option<(u32, u32)>
+pub(crate) fn first_woken(leaf: &Leaf, awake: &Leaf, members: &StateSet) -> Option<(u32, u32)>
     requires leaf_formed { IsLeaf leaf.now }
     requires formed { IsLeaf awake.now }
     requires states { length awake.now.states ≡ length leaf.now.states }
@@ -30,7 +30,7 @@ pub(crate) fn first_woken(leaf: &Leaf, awake: &Leaf, members: &Members) -> Optio
 }
 
 /// The least move that the move with this number wakes.
-fn woken_by(leaf: &Leaf, awake: &Leaf, members: &Members, t: u32) -> Option<u32>
+fn woken_by(leaf: &Leaf, awake: &Leaf, members: &StateSet, t: u32) -> Option<u32>
     requires leaf_formed { IsLeaf leaf.now }
     requires formed { IsLeaf awake.now }
     requires states { length awake.now.states ≡ length leaf.now.states }
@@ -46,7 +46,7 @@ fn woken_by(leaf: &Leaf, awake: &Leaf, members: &Members, t: u32) -> Option<u32>
 }
 
 /// Whether the move with this number is between two agents of the set, not silent, and not to sleep.
-fn is_waker(awake: &Leaf, members: &Members, taken: Move, t: u32) -> bool
+fn is_waker(awake: &Leaf, members: &StateSet, taken: Move, t: u32) -> bool
     requires below { IsMoveBelow STATE_LIMIT taken }
     requires in_range { t < length awake.now.moves }
     ensures { result ≡ (not (silent_move taken)
@@ -56,7 +56,7 @@ fn is_waker(awake: &Leaf, members: &Members, taken: Move, t: u32) -> bool
 }
 
 /// The same for a move between two agents of the set that isn't to sleep.
-fn woken_beside(awake: &Leaf, members: &Members, taken: Move) -> Option<u32>
+fn woken_beside(awake: &Leaf, members: &StateSet, taken: Move) -> Option<u32>
     requires formed { IsLeaf awake.now }
     requires below { IsMoveBelow (length awake.now.states) taken }
     ensures { FindsFirst (wakes_awake awake.now members.now taken) result }
@@ -67,7 +67,7 @@ fn woken_beside(awake: &Leaf, members: &Members, taken: Move) -> Option<u32>
     least_woken(awake, members, taken)
 }
 
-fn least_woken(awake: &Leaf, members: &Members, taken: Move) -> Option<u32>
+fn least_woken(awake: &Leaf, members: &StateSet, taken: Move) -> Option<u32>
     requires formed { IsLeaf awake.now }
     requires below { IsMoveBelow (length awake.now.states) taken }
     ensures { result ≡ first_below (length awake.now.moves) (wakes_awake awake.now members.now taken) }
@@ -75,7 +75,7 @@ fn least_woken(awake: &Leaf, members: &Members, taken: Move) -> Option<u32>
     (0..awake.move_count()).find(|u| wakes_move(awake, members, taken, *u))
 }
 
-fn wakes_move(awake: &Leaf, members: &Members, taken: Move, u: u32) -> bool
+fn wakes_move(awake: &Leaf, members: &StateSet, taken: Move, u: u32) -> bool
     requires formed { IsLeaf awake.now }
     requires below { IsMoveBelow (length awake.now.states) taken }
     requires in_range { u < length awake.now.moves }

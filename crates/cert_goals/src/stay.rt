@@ -9,15 +9,15 @@ ghost use Rattle.cert_goals.specs.SetSearch.{FindsLeft, fault_of_woken};
 
 use crate::escape::{escapes_of, first_unguarded};
 use crate::fault::SetFault;
-use crate::members::Members;
 use crate::sleep::first_woken;
+use cert_traps::StateSet;
 use pop_hushed::hushed_leaf;
 use pop_io::NoMemory;
 use pop_net::Leaf;
 use std::alloc::Global;
 
 /// Whether no move outside these that takes two states of the set wakes one of them there.
-pub(crate) fn is_settled(leaf: &Leaf, moves: &[u32], kept: &Leaf, members: &Members) -> bool
+pub(crate) fn is_settled(leaf: &Leaf, moves: &[u32], kept: &Leaf, members: &StateSet) -> bool
     requires formed { IsLeaf leaf.now }
     requires kept { kept.now ≡ hushed leaf.now moves.now }
     ensures { MatchBool result (SleepIn leaf.now members.now moves.now) (¬ SleepIn leaf.now members.now moves.now) }
@@ -31,7 +31,7 @@ pub(crate) fn left_by(
     leaf: &Leaf,
     moves: &[u32],
     kept: &Leaf,
-    members: &Members,
+    members: &StateSet,
     number: u32,
 ) -> Result<Option<SetFault>, NoMemory>
     requires formed { IsLeaf leaf.now }
@@ -52,7 +52,7 @@ pub(crate) fn left_by(
 fn woken_escape(
     alloc: Global,
     leaf: &Leaf,
-    members: &Members,
+    members: &StateSet,
 ) -> Result<Option<(u32, u32)>, NoMemory>
     requires { IsLeaf leaf.now }
     ensures { IfOk result (FindsWoken leaf.now (hushed leaf.now (escapes leaf.now members.now)) members.now) }

@@ -11,8 +11,8 @@ ghost use Rattle.cert_layers.specs.Waking.{brings_state, brings_two_states, wake
 ghost use Rattle.cert_layers.specs.Waking.{wakes_states, wakes_beside_state, may_wake_any};
 ghost use Rattle.cert_goals.specs.SetTests.{is_other_within, is_rest_within};
 
-use crate::members::Members;
 use cert_base::can_meet;
+use cert_traps::StateSet;
 use pop_net::{Leaf, Move, STATE_LIMIT};
 
 /// Whether a move wakes one at all, by pairs of states alone.
@@ -86,7 +86,7 @@ fn brings_both(taken: Move, brought: u16, other: u16) -> bool
 }
 
 /// Whether of two states, one of which the move brings, the other is brought too or in the set.
-pub(crate) fn is_rest_in(members: &Members, taken: Move, x: u16, y: u16) -> bool
+pub(crate) fn is_rest_in(members: &StateSet, taken: Move, x: u16, y: u16) -> bool
     requires x_in { x < STATE_LIMIT }
     requires y_in { y < STATE_LIMIT }
     ensures { result ≡ is_rest_within members.now taken x y }
@@ -98,7 +98,7 @@ pub(crate) fn is_rest_in(members: &Members, taken: Move, x: u16, y: u16) -> bool
     }
 }
 
-fn is_other_in(members: &Members, taken: Move, brought: u16, other: u16) -> bool
+fn is_other_in(members: &StateSet, taken: Move, brought: u16, other: u16) -> bool
     requires { other < STATE_LIMIT }
     ensures { result ≡ is_other_within members.now taken brought other }
 {

@@ -15,5 +15,6 @@ mod trap;
 
 pub use first::{entry_cases, facts_before_entry, first_cases};
 pub use present::{present_cases, twin_case};
+pub use set::StateSet;
 pub use siphon::siphon_cases;
 pub use trap::trap_cases;

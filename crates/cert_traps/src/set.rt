@@ -12,7 +12,7 @@ use std::marker::Model;
 
 /// The states that are listed, and for each state whether it is.
 #[derive(Drop)]
-pub(crate) struct StateSet {
+pub struct StateSet {
     listed: List<u16>,
     inside: Vec<bool>,
 }
@@ -31,7 +31,7 @@ impl Model for StateSet {
 }
 
 impl StateSet {
-    pub(crate) fn new(alloc: Global, listed: &List<u16>) -> Result<StateSet, NoMemory>
+    pub fn new(alloc: Global, listed: &List<u16>) -> Result<StateSet, NoMemory>
         ensures { IfOk result (λ set. set ≡ listed.now) }
     {
         let inside = table(alloc, listed.as_slice())?;
@@ -41,7 +41,8 @@ impl StateSet {
         })
     }
 
-    pub(crate) fn contains(&self, q: u16) -> bool
+    /// Whether a state is in the set.
+    pub fn contains(&self, q: u16) -> bool
         requires { q < STATE_LIMIT }
         ensures { result ≡ is_in self.now q }
     {

@@ -1,4 +1,3 @@
-mod Copied
 pub mod HushedLeaves
 mod ChosenLayers
 mod Takes

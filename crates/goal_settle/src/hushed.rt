@@ -1,14 +1,14 @@
 //! The hushed net.
 
 ghost use Rattle.std.specs.Prelude.{◌≡◌, length, IfOk};
-ghost use Rattle.cert_base.specs.ValidLayers.{moves_of_layers};
 ghost use Rattle.goal_settle.specs.HushedNet.{hushed_leaves, hushed_net};
 
-use cert_base::{Layer, Proof};
+use cert_base::Proof;
+use cert_goals::listed_moves;
 use pop_hushed::hushed_leaf;
 use pop_io::{List, NoMemory, Text};
 use pop_net::{Item, Leaf, Net};
-use std::alloc::{AllocError, Global};
+use std::alloc::Global;
 
 /// The net in which each leaf keeps the moves of its layers alone, and all others are silent.
 pub(crate) fn hushed_net(alloc: Global, net: &Net, proof: &Proof) -> Result<Net, NoMemory>
@@ -34,17 +34,6 @@ fn hushed_leaves(alloc: Global, net: &Net, proof: &Proof) -> Result<List<Leaf>, 
         leaves.push(hushed_leaf(alloc, net.leaf(i), moves.as_slice())?)?;
     }
     Ok(List::from_vec(leaves))
-}
-
-/// All numbers of moves that the layers list, in order.
-fn listed_moves(alloc: Global, layers: &[Layer]) -> Result<Vec<u32>, AllocError>
-    ensures { IfOk result (λ moves. moves.items ≡ moves_of_layers layers.now) }
-{
-    let mut moves = Vec::new(alloc);
-    for layer in layers {
-        moves.extend_from_slice(layer.moves.as_slice())?;
-    }
-    Ok(moves)
 }
 
 fn copy_names(alloc: Global, names: &[Text]) -> Result<List<Text>, NoMemory>

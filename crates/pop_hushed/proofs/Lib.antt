@@ -1,4 +1,4 @@
-mod Copied
+pub mod Copied
 pub mod Crowds
 pub mod Kept
 mod Marked

@@ -1,4 +1,4 @@
-use Rattle.goal_settle.proofs.Copied.{one_copied}
+use Rattle.pop_hushed.proofs.Copied.{one_copied}
 use Rattle.goal_settle.proofs.hushed.copy_items.Goals as goal
 
 pub loop-i-preserved : goal.loop-i-preserved

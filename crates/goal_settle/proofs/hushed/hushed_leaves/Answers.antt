@@ -7,7 +7,7 @@ use Rattle.std.specs.Prelude.{ℕ, List}
 use Rattle.cert_base.specs.declared.proof.LeafProof.{LeafProof}
 use Rattle.pop_hushed.specs.Hushed.{hushed}
 use Rattle.goal_settle.specs.HushedNet.{hushed_leaves}
-use Rattle.goal_settle.proofs.Copied.{one_copied}
+use Rattle.pop_hushed.proofs.Copied.{one_copied}
 use Rattle.goal_settle.proofs.HushedLeaves.{hushed_length, hushed_at}
 use Rattle.goal_settle.proofs.hushed.hushed_leaves.Goals as goal
 
