@@ -1,5 +1,6 @@
 -- Stays: a set of states that agents don't leave once all are in it.
-use Rattle.std.specs.Prelude.{◌≡◌, ℕ, ◌<◌, true, false, Bool, not, ◌&&◌, ◌⊎◌, List, length, Some, slice_get, filter, Contains}
+use Rattle.std.specs.Prelude.{◌≡◌, ℕ, ◌<◌, true, false, Bool, not, ◌&&◌, ◌⊎◌, List, length, Some, slice_get}
+use Rattle.std.specs.Prelude.{filter, Contains}
 use Rattle.std.specs.List.{range_with_len}
 use Rattle.pop_net.specs.declared.leaf.Move.{Move}
 use Rattle.pop_net.specs.LeafModel.{LeafModel, silent_move, pre, post}

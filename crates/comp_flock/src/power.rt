@@ -4,7 +4,8 @@ ghost use Rattle.std.specs.Prelude.{◌≡◌, ◌≤◌, ◌+◌, ◌^◌, find
 ghost use Rattle.std.specs.List.{range_with_len, list_all};
 ghost use Rattle.std.specs.Ordering.{int_eq};
 ghost use Rattle.comp_flock.specs.declared.limits.TheConstants.{POWER_LIMIT as GREATEST_POWER};
-ghost use Rattle.comp_flock.specs.FlockLeaf.{is_flock_coefficient as is_flock, has_sign as has_sign_of, is_size as is_size_of};
+ghost use Rattle.comp_flock.specs.FlockLeaf.{is_flock_coefficient as is_flock, has_sign as has_sign_of};
+ghost use Rattle.comp_flock.specs.FlockLeaf.{is_size as is_size_of};
 ghost use Rattle.comp_flock.specs.FlockLeaf.{is_counted as is_counted_by, flock_bound, power_of as power_of_flock};
 ghost use Rattle.comp_flock.specs.FlockLeaf.{power_of_counted, offset_power as offset_power_of};
 

@@ -1,5 +1,6 @@
 -- Atoms: the atoms of a predicate's tree from left to right, the tree in postfix, and which leaf an atom gets.
-use Rattle.std.specs.Prelude.{◌≡◌, ℕ, ◌+◌, max, ◌≤◌, Bool, true, false, ◌&&◌, if◌then◌else◌, is_some, List, [], ◌∷◌, ◌++◌, ℤ, nat_abs, length, Option}
+use Rattle.std.specs.Prelude.{◌≡◌, ℕ, ◌+◌, max, ◌≤◌, Bool, true, false, ◌&&◌, if◌then◌else◌, is_some, List}
+use Rattle.std.specs.Prelude.{[], ◌∷◌, ◌++◌, ℤ, nat_abs, length, Option}
 use Rattle.std.specs.Prelude.{Some, None}
 use Rattle.pop_io.specs.declared.names.TheConstants.{VARIABLE_LIMIT}
 use Rattle.pop_net.specs.declared.net.Item.{Item}

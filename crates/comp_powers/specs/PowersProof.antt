@@ -1,5 +1,6 @@
 -- PowersProof: the layers, the trees and the whole proof for a built leaf of powers.
-use Rattle.std.specs.Prelude.{◌≡◌, ◌≤◌, ℕ, ◌+◌, ◌*◌, ◌^◌, ◌%◌, Bool, true, false, if◌then◌else◌, List, [], ◌∷◌, ◌++◌, map, length, ℤ, pos}
+use Rattle.std.specs.Prelude.{◌≡◌, ◌≤◌, ℕ, ◌+◌, ◌*◌, ◌^◌, ◌%◌, Bool, true, false, if◌then◌else◌, List, []}
+use Rattle.std.specs.Prelude.{◌∷◌, ◌++◌, map, length, ℤ, pos}
 use Rattle.std.specs.Prelude.{negsuc, neg_ℤ, nat_lt, slice_index_or}
 use Rattle.std.specs.List.{range_with_len, list_any}
 use Rattle.pop_net.specs.declared.limits.TheConstants.{STATE_LIMIT}
@@ -11,12 +12,14 @@ use Rattle.cert_base.specs.declared.node.Node.{Node}
 use Rattle.cert_base.specs.declared.node.Node.TheVariants.{Present, Twin, Trap, Open}
 use Rattle.cert_base.specs.declared.proof.LeafProof.{LeafProof}
 use Rattle.cert_base.specs.Rows.{zeros}
-use Rattle.cert_base.specs.FactsAndCases.{indicator, differs, states_of, can_meet_in, puts_into, no_moves, no_start_facts}
+use Rattle.cert_base.specs.FactsAndCases.{indicator, differs, states_of, can_meet_in, puts_into, no_moves}
+use Rattle.cert_base.specs.FactsAndCases.{no_start_facts}
 use Rattle.comp_trees.specs.SortedLayers.{sorted_layers}
 use Rattle.comp_trees.specs.LeaderTree.{company_of, weighed_node, mix_over}
 use Rattle.comp_powers_leaf.specs.declared.role.Role.{Role}
 use Rattle.comp_powers_leaf.specs.declared.role.Role.TheVariants.{Low, High, Nothing, Piece, Plus, Debtor, Token}
-use Rattle.comp_powers_leaf.specs.PowersLeaf.{roles, HasRange, owed, coefficient_of, chain_of, worth, role_at, place, powers_moves, powers_leaf_of}
+use Rattle.comp_powers_leaf.specs.PowersLeaf.{roles, HasRange, owed, coefficient_of, chain_of, worth, role_at}
+use Rattle.comp_powers_leaf.specs.PowersLeaf.{place, powers_moves, powers_leaf_of}
 use Rattle.comp_powers_leaf.specs.PowersLayers.{powers_kind, powers_weights}
 use Rattle.comp_powers.specs.declared.values.Amount.{Amount}
 use Rattle.comp_powers.specs.declared.values.Amount.TheVariants.{Worth, Owed, Lost, Ready}

@@ -1,6 +1,7 @@
 //! The multipliers of the nodes' own facts, and the nodes that they close.
 
-ghost use Rattle.std.specs.Prelude.{◌≡◌, ◌≤◌, ◌<◌, ◌+◌, ◌++◌, ◌∷◌, [], pos, negsuc, true, false, map, length, slice_index_or, IfOk, OnOk};
+ghost use Rattle.std.specs.Prelude.{◌≡◌, ◌≤◌, ◌<◌, ◌+◌, ◌++◌, ◌∷◌, [], pos, negsuc, true, false, map, length};
+ghost use Rattle.std.specs.Prelude.{slice_index_or, IfOk, OnOk};
 ghost use Rattle.cert_base.specs.Rows.{zeros};
 ghost use Rattle.cert_base.specs.FactsAndCases.{puts_into, is_in, places_from, no_moves, no_start_facts};
 ghost use Rattle.pop_io.specs.declared.names.TheConstants.{VARIABLE_LIMIT};

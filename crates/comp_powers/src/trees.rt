@@ -1,7 +1,8 @@
 //! Both trees of a leaf.
 
 ghost use Rattle.std.specs.Prelude.{◌≡◌, ◌≤◌, ◌+◌, ◌++◌, ◌∷◌, [], length, map, IfOk, OnOk};
-ghost use Rattle.cert_base.specs.declared.node.Node.TheVariants.{Open as open_node, Trap as trap_node, Twin as twin_node};
+ghost use Rattle.cert_base.specs.declared.node.Node.TheVariants.{Open as open_node, Trap as trap_node};
+ghost use Rattle.cert_base.specs.declared.node.Node.TheVariants.{Twin as twin_node};
 ghost use Rattle.cert_base.specs.declared.node.Node.TheVariants.{Present as present_node};
 ghost use Rattle.pop_net.specs.declared.limits.TheConstants.{STATE_LIMIT};
 ghost use Rattle.comp_trees.specs.LeaderTree.{weighed_node};

@@ -5,7 +5,8 @@ ghost use Rattle.comp_trees.specs.SortedLayers.{sorted_layer};
 ghost use Rattle.comp_powers_leaf.specs.declared.limits.TheConstants.{RANGE_LIMIT};
 ghost use Rattle.comp_powers.specs.PowersProof.{AreStates, powers_layers_of};
 ghost use Rattle.comp_powers_leaf.specs.PowersLeaf.{powers_moves};
-ghost use Rattle.comp_powers_leaf.specs.PowersLayers.{low_kind, nothing_kind, kind_by, kind_at, sum_weight, answer_weight};
+ghost use Rattle.comp_powers_leaf.specs.PowersLayers.{low_kind, nothing_kind, kind_by, kind_at, sum_weight};
+ghost use Rattle.comp_powers_leaf.specs.PowersLayers.{answer_weight};
 ghost use Rattle.comp_powers_leaf.specs.PowersLayers.{one_if as one_where};
 
 use cert_base::Layer;

@@ -1,7 +1,9 @@
 -- PowersLeaf: the built leaf of `a(1)*x(1) + .. < c` with the range 2^k: states are worth a power of two or nothing, two
 -- that are worth the same join, and the hub tells whether the sum less c is below 0.
-use Rattle.std.specs.Prelude.{◌<◌, ◌≤◌, ◌<ℤ◌, ℕ, zero, suc, ◌+◌, ◌-◌, ◌*◌, ◌^◌, ◌%◌, Bool, true, false, not, ◌&&◌, ◌||◌, ◌==◌, nat_lt, nat_le}
-use Rattle.std.specs.Prelude.{if◌then◌else◌, List, [], ◌∷◌, ◌++◌, length, map, flat_map, slice_index_or, ℤ, pos, negsuc, neg_ℤ}
+use Rattle.std.specs.Prelude.{◌<◌, ◌≤◌, ◌<ℤ◌, ℕ, zero, suc, ◌+◌, ◌-◌, ◌*◌, ◌^◌, ◌%◌, Bool, true, false, not}
+use Rattle.std.specs.Prelude.{◌&&◌, ◌||◌, ◌==◌, nat_lt, nat_le}
+use Rattle.std.specs.Prelude.{if◌then◌else◌, List, [], ◌∷◌, ◌++◌, length, map, flat_map, slice_index_or, ℤ}
+use Rattle.std.specs.Prelude.{pos, negsuc, neg_ℤ}
 use Rattle.std.specs.Prelude.{nat_abs, find, replicate, Option, Some, None}
 use Rattle.std.specs.List.{range_with_len}
 use Rattle.std.specs.Fmt.{decimal}

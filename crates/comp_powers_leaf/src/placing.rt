@@ -6,7 +6,8 @@ ghost use Rattle.pop_io.specs.declared.names.TheConstants.{VARIABLE_LIMIT};
 ghost use Rattle.comp_powers_leaf.specs.declared.limits.TheConstants.{RANGE_LIMIT};
 ghost use Rattle.comp_powers_leaf.specs.declared.role.Role.TheVariants.{Token as token_of};
 ghost use Rattle.comp_powers_leaf.specs.PowersLeaf.{power_in, chain_of, debtors_of, block_of, fixed_roles, pieces_of};
-ghost use Rattle.comp_powers_leaf.specs.PowersLeaf.{roles as all_roles, block_size, states_before, place as place_of, HasRange, IsRole};
+ghost use Rattle.comp_powers_leaf.specs.PowersLeaf.{roles as all_roles, block_size, states_before};
+ghost use Rattle.comp_powers_leaf.specs.PowersLeaf.{place as place_of, HasRange, IsRole};
 
 use crate::numbers::two_to;
 use crate::role::{Role, behind};

@@ -4,7 +4,8 @@ ghost use Rattle.std.specs.Prelude.{◌≡◌, ◌≤◌, ◌+◌, ◌++◌, map
 ghost use Rattle.std.specs.List.{range_with_len};
 ghost use Rattle.comp_flock.specs.declared.limits.TheConstants.{PLACE_LIMIT};
 ghost use Rattle.comp_flock.specs.FlockLeaf.{conversion_move};
-ghost use Rattle.comp_prefix.specs.PrefixLeaf.{full_move as full_of, join_move as join_of, pair_moves, moves_from as from_of};
+ghost use Rattle.comp_prefix.specs.PrefixLeaf.{full_move as full_of, join_move as join_of, pair_moves};
+ghost use Rattle.comp_prefix.specs.PrefixLeaf.{moves_from as from_of};
 ghost use Rattle.comp_prefix.specs.PrefixLeaf.{prefix_moves, AreWorths};
 
 use crate::worths::worth_in;

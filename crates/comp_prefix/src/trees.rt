@@ -6,7 +6,8 @@ ghost use Rattle.cert_base.specs.declared.node.Node.TheVariants.{Twin as twin_no
 ghost use Rattle.comp_trees.specs.LeaderTree.{weighed_node};
 ghost use Rattle.comp_flock.specs.declared.limits.TheConstants.{POWER_LIMIT, PLACE_LIMIT};
 ghost use Rattle.comp_prefix.specs.PrefixLeaf.{AreWorths};
-ghost use Rattle.comp_prefix.specs.PrefixProof.{with_mix, without_mix, prefix_nodes as nodes_of, enough_tree as tree_of_enough};
+ghost use Rattle.comp_prefix.specs.PrefixProof.{with_mix, without_mix, prefix_nodes as nodes_of};
+ghost use Rattle.comp_prefix.specs.PrefixProof.{enough_tree as tree_of_enough};
 ghost use Rattle.comp_prefix.specs.PrefixProof.{too_few_tree as tree_of_few, prefix_tree};
 
 use crate::multipliers::{first, with_prefix, without_prefix};
