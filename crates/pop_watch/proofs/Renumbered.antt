@@ -67,20 +67,20 @@ numbers_of_workers workers seats (m ∷ ms) one some h =
     (numbers_of_workers workers seats ms one (All-tail IsOfWorker m ms some) (All-tail (λ (m : Meeting). m.worker < seats) m ms h))
 
 -- the next meeting of a list is turned, in its place
-pub turn_next : (meetings now : List Meeting) (i : ℕ) (m : Meeting) → i < length meetings → map of_worker (take i meetings) ++ drop i meetings ≡ now → get_or now i m ≡ m
-    → map of_worker (take (i + 1) meetings) ++ drop (i + 1) meetings ≡ set now i (of_worker m)
-turn_next meetings now i m l done there =
-    let here = get_or meetings i m in
+pub turn_next : (meetings now : List Meeting) (i : ℕ) (d : Meeting) → i < length meetings → map of_worker (take i meetings) ++ drop i meetings ≡ now
+    → map of_worker (take (i + 1) meetings) ++ drop (i + 1) meetings ≡ set now i (of_worker (get_or now i d))
+turn_next meetings now i d l done =
+    let here = get_or meetings i d in
     let turned = map of_worker (take i meetings) in
     let later = drop (i + 1) meetings in
     let long : length turned ≡ i = length-map (take i meetings) of_worker ∙ length-take-le i meetings (omega (arith, l)) in
-    let parts : now ≡ turned ++ here ∷ later = sym done ∙ ap (λ (ms : List Meeting). turned ++ ms) (drop_more meetings i m l) in
-    let same : here ≡ m =
-    sym (ap (λ (ms : List Meeting). get_or ms i m) parts ∙ ap (λ (n : ℕ). get_or (turned ++ here ∷ later) n m) (sym long) ∙ get_or-append_seam turned here later m) ∙ there in
-    ap (λ (ms : List Meeting). map of_worker ms ++ later) (take_more meetings i m l)
+    let parts : now ≡ turned ++ here ∷ later = sym done ∙ ap (λ (ms : List Meeting). turned ++ ms) (drop_more meetings i d l) in
+    let same : here ≡ get_or now i d =
+    sym (ap (λ (ms : List Meeting). get_or ms i d) parts ∙ ap (λ (n : ℕ). get_or (turned ++ here ∷ later) n d) (sym long) ∙ get_or-append_seam turned here later d) in
+    ap (λ (ms : List Meeting). map of_worker ms ++ later) (take_more meetings i d l)
     ∙ ap (λ (ms : List Meeting). ms ++ later) (map-append of_worker (take i meetings) (here ∷ []))
     ∙ append_assoc turned (of_worker here ∷ []) later
     ∙ ap (λ (x : Meeting). turned ++ of_worker x ∷ later) same
-    ∙ sym (set-append_seam turned here later (of_worker m))
-    ∙ ap (λ (n : ℕ). set (turned ++ here ∷ later) n (of_worker m)) long
-    ∙ ap (λ (ms : List Meeting). set ms i (of_worker m)) (sym parts)
+    ∙ sym (set-append_seam turned here later (of_worker (get_or now i d)))
+    ∙ ap (λ (n : ℕ). set (turned ++ here ∷ later) n (of_worker (get_or now i d))) long
+    ∙ ap (λ (ms : List Meeting). set ms i (of_worker (get_or now i d))) (sym parts)

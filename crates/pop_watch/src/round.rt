@@ -45,31 +45,25 @@ fn watch_beside<R: Threads + Wait + Sync, G: Gate>(
     field: &Field,
     seat: &mut FieldSeat,
     workers: &mut [Worker],
-    turns: u64,
+    shift: &Shift<G>,
 ) -> Result<(), NoMemory>
-    requires observer { CanObserve run.now.net.now (table_net run.now.table.now) field.now turns seat.old }
-    requires workers { All (MayWork field.now turns) workers.old }
+    requires observed { shift.now.signals.now.observed ≡ true }
+    requires observer { CanObserve run.now.net.now (table_net run.now.table.now) field.now shift.now.turns seat.old }
+    requires workers { All (MayWork field.now shift.now.turns) workers.old }
     ensures seat { IsSeatOf field.now seat.new × KeepsLogs seat.old seat.new }
-    ensures workers { HaveWorked field.now turns true workers.old workers.new }
+    ensures workers { HaveWorked field.now shift.now.turns true workers.old workers.new }
 {
-    let signals = Signals::new(true);
-    let shift = Shift {
-        turns,
-        signals: &signals,
-        gate: run.gate,
-    };
-    let shared = &shift;
     let (observed, ()) = join_mut(
         rt,
         &mut || -> Result<(), NoMemory>
-            requires { CanObserve run.now.net.now (table_net run.now.table.now) field.now shared.now.turns seat.now }
+            requires { CanObserve run.now.net.now (table_net run.now.table.now) field.now shift.now.turns seat.now }
             ensures { IsSeatOf field.entry.now seat.exit.now × KeepsLogs seat.entry.now seat.exit.now }
-        { observe(rt, alloc, run, field, seat, shared) },
+        { observe(rt, alloc, run, field, seat, shift) },
         &mut ||
-            requires { IsCrowdSize (agents_of_field field.now) × All (MayWork field.now shared.now.turns) workers.now
-                × (shared.now.signals.now.observed ≡ true) }
-            ensures { HaveWorked field.entry.now shared.entry.now.turns true workers.entry.now workers.exit.now }
-        { work_all(rt, field, workers, shared) },
+            requires { IsCrowdSize (agents_of_field field.now) × All (MayWork field.now shift.now.turns) workers.now
+                × (shift.now.signals.now.observed ≡ true) }
+            ensures { HaveWorked field.entry.now shift.entry.now.turns true workers.entry.now workers.exit.now }
+        { work_all(rt, field, workers, shift) },
     );
     observed
 }
@@ -97,7 +91,14 @@ fn field_round<R: Threads + Wait + Sync, G: Gate>(
     let (field, mut seat, mut workers) =
         open_round(rt, alloc, run.net, run.spec.shards, start, layout)?;
     field.reserve_looks(alloc, &mut seat, LOOKS_A_ROUND)?;
-    watch_beside(rt, alloc, run, &field, &mut seat, workers.as_mut_slice(), turns)?;
+    let signals = Signals::new(true);
+    let shift = Shift {
+        turns,
+        signals: &signals,
+        gate: run.gate,
+    };
+    let seats = workers.as_mut_slice();
+    watch_beside(rt, alloc, run, &field, &mut seat, seats, &shift)?;
     let made = meetings_made(alloc, workers.as_slice())?;
     let (whole, pickers) = take_in(&field, seat, workers, Vec::new(alloc))?;
     let round = field.close_on(alloc, whole, layout)?;

@@ -39,7 +39,7 @@ watch_beside-requires-clause-observer g c κs within =
 pub watch_beside-requires-clause-workers : goal.watch_beside-requires-clause-workers
 watch_beside-requires-clause-workers g c κs within =
     let ready = c.in_ok-field.ensures.opened.ready.1 in
-    subst (λ (l : List Worker). All (MayWork c.in_ok-field.field c.args.start.turns) l) (sym c.as_mut_slice.ensures.value) (λ k d h. (ready k d [] h).may)
+    subst (λ (l : List Worker). All (MayWork c.in_ok-field.field c.args.start.turns) l) (sym c.as_mut_slice-seats.ensures.value) (λ k d h. (ready k d [] h).may)
 
 pub take_in-requires : goal.take_in-requires
 take_in-requires g c =
@@ -49,7 +49,7 @@ take_in-requires g c =
     let pickers = c.args.start.pickers.items in
     let new = c.watch_beside.new.workers in
     let old = c.in_ok-field.workers.items in
-    let done = are_done f turns true pickers old _ new c.as_mut_slice.ensures.value e.ready c.watch_beside.auto.workers c.watch_beside.ensures.workers in
+    let done = are_done f turns true pickers old _ new c.as_mut_slice-seats.ensures.value e.ready c.watch_beside.auto.workers c.watch_beside.ensures.workers in
     let list = whole_written c.in_ok-field.workers.len new old (done.0 ∙ sym e.ready.0) (omega arith) in
     let made = subst (AreDone f turns true pickers) (sym list) done in
     let kept = c.watch_beside.ensures.seat.1 in
@@ -66,7 +66,7 @@ take_in-requires g c =
 pub turn_to_workers-requires : goal.turn_to_workers-requires
 turn_to_workers-requires g c =
     let own : calls 0 c.in_ok-round.round.meetings ≡ [] = c.in_ok-round.ensures.round.own ∙ c.in_ok-whole.ensures.all.own ∙ c.watch_beside.ensures.seat.1.4 ∙ (c.in_ok-reserve_looks.ensures.rest.4 ∙ c.in_ok-field.ensures.opened.fresh.0) in
-    subst (λ (l : List Meeting). All IsOfWorker l) (sym c.as_mut_slice-2.ensures.value) (all_of_workers 0 c.in_ok-round.round.meetings own)
+    subst (λ (l : List Meeting). All IsOfWorker l) (sym (c.as_mut_slice.ensures.value ∙ c.into_vec-meetings.ensures)) (all_of_workers 0 c.in_ok-round.round.meetings own)
 
 pub of_words-crowd-requires-clause-some : goal.of_words-crowd-requires-clause-some
 of_words-crowd-requires-clause-some g c =
@@ -88,14 +88,16 @@ returns-clause-made g c =
     let new = c.watch_beside.new.workers in
     let old = c.in_ok-field.workers.items in
     let ready = c.in_ok-field.ensures.opened.ready in
-    let done = are_done f turns true pickers old _ new c.as_mut_slice.ensures.value ready c.watch_beside.auto.workers c.watch_beside.ensures.workers in
+    let done = are_done f turns true pickers old _ new c.as_mut_slice-seats.ensures.value ready c.watch_beside.auto.workers c.watch_beside.ensures.workers in
     let list = whole_written c.in_ok-field.workers.len new old (done.0 ∙ sym ready.0) (omega arith) in
     let all = subst (λ (l : List Worker). HasAll f l c.watch_beside.new.seat c.in_ok-whole.whole) list c.in_ok-whole.ensures.all in
     let closed = c.in_ok-round.ensures.round in
     let meetings = c.in_ok-round.round.meetings in
     let own : calls 0 meetings ≡ [] = closed.own ∙ all.own ∙ c.watch_beside.ensures.seat.1.4 ∙ (c.in_ok-reserve_looks.ensures.rest.4 ∙ c.in_ok-field.ensures.opened.fresh.0) in
     let some = all_of_workers 0 meetings own in
-    let mine : c.in_ok-meetings.meetings.items ≡ map of_worker meetings = c.in_ok-meetings.ensures ∙ ap (map of_worker) c.as_mut_slice-2.ensures.value in
+    let turned : c.turn_to_workers.new.meetings ≡ map of_worker c.into_vec-meetings.result.items = c.turn_to_workers.ensures ∙ ap (map of_worker) c.as_mut_slice.ensures.value in
+    let long : length c.turn_to_workers.new.meetings ≡ length c.into_vec-meetings.result.items = ap (length {A = Meeting}) turned ∙ length-map c.into_vec-meetings.result.items of_worker in
+    let mine = whole_written c.into_vec-meetings.result.len c.turn_to_workers.new.meetings c.into_vec-meetings.result.items long (omega arith) ∙ turned ∙ ap (map of_worker) c.into_vec-meetings.ensures in
     let any : Worker = record { seat = c.watch_beside.new.seat; picker = [] } in
     let made : c.in_ok-made.made.items ≡ map (λ (v : Worker). length (log_of v.seat)) new = c.in_ok-made.ensures ∙ ap (map (λ (v : Worker). length (log_of v.seat))) (c.as_slice.ensures.value ∙ list) in (
       ap (length {A = ℕ}) made ∙ length-map new (λ (v : Worker). length (log_of v.seat)) ∙ done.0 ∙ c.requires.round.pickers,
@@ -115,14 +117,16 @@ returns-clause-part g c =
     let new = c.watch_beside.new.workers in
     let old = c.in_ok-field.workers.items in
     let ready = c.in_ok-field.ensures.opened.ready in
-    let done = are_done f turns true pickers old _ new c.as_mut_slice.ensures.value ready c.watch_beside.auto.workers c.watch_beside.ensures.workers in
+    let done = are_done f turns true pickers old _ new c.as_mut_slice-seats.ensures.value ready c.watch_beside.auto.workers c.watch_beside.ensures.workers in
     let list = whole_written c.in_ok-field.workers.len new old (done.0 ∙ sym ready.0) (omega arith) in
     let all = subst (λ (l : List Worker). HasAll f l c.watch_beside.new.seat c.in_ok-whole.whole) list c.in_ok-whole.ensures.all in
     let closed = c.in_ok-round.ensures.round in
     let meetings = c.in_ok-round.round.meetings in
     let own : calls 0 meetings ≡ [] = closed.own ∙ all.own ∙ c.watch_beside.ensures.seat.1.4 ∙ (c.in_ok-reserve_looks.ensures.rest.4 ∙ c.in_ok-field.ensures.opened.fresh.0) in
     let some = all_of_workers 0 meetings own in
-    let mine : c.in_ok-meetings.meetings.items ≡ map of_worker meetings = c.in_ok-meetings.ensures ∙ ap (map of_worker) c.as_mut_slice-2.ensures.value in
+    let turned : c.turn_to_workers.new.meetings ≡ map of_worker c.into_vec-meetings.result.items = c.turn_to_workers.ensures ∙ ap (map of_worker) c.as_mut_slice.ensures.value in
+    let long : length c.turn_to_workers.new.meetings ≡ length c.into_vec-meetings.result.items = ap (length {A = Meeting}) turned ∙ length-map c.into_vec-meetings.result.items of_worker in
+    let mine = whole_written c.into_vec-meetings.result.len c.turn_to_workers.new.meetings c.into_vec-meetings.result.items long (omega arith) ∙ turned ∙ ap (map of_worker) c.into_vec-meetings.ensures in
     let any : Worker = record { seat = c.watch_beside.new.seat; picker = [] } in
     let after = c.in_ok-whole.pickers.items in
     let moved : after ≡ map (λ (v : Worker). v.picker) new = c.in_ok-whole.ensures.pickers ∙ (λ i. c.new.ensures.items i ++ map (λ (v : Worker). v.picker) (list i)) in
