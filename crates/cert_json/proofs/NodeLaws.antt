@@ -14,6 +14,7 @@ use Rattle.json_shape.proofs.TaggedReaders as Tagged
 use Rattle.cert_base.specs.declared.fact.Term.{Term}
 use Rattle.cert_base.specs.declared.node.Node.{Node}
 use Rattle.cert_base.specs.declared.node.Node.TheVariants.{Linear, Residue, Split, Present, Twin, Trap, Siphon, Open}
+use Rattle.cert_base.specs.declared.node.Node.TheVariants.{First}
 use Rattle.cert_base.specs.ProofLimits.{IsSmall, IsAscending, AreTermsWithin, IsSetWithin, IsNodeWithin, AreNodesWithin}
 use Rattle.cert_base.specs.declared.limits.TheConstants.{NODE_LIMIT}
 use Rattle.pres_ast.specs.declared.limits.TheConstants.{MODULUS_LIMIT}
@@ -37,7 +38,7 @@ named_takes s w =
     (else_takes kind.Residue w s _
     (else_takes kind.Split w s _
     (else_takes kind.Present w s _
-    (else_takes kind.Twin w s _ (else_takes kind.Trap w s _ (else_takes kind.Siphon w s _ (else_takes kind.Open w s None (λ e. absurd cc))))))))
+    (else_takes kind.Twin w s _ (else_takes kind.Trap w s _ (else_takes kind.Siphon w s _ (else_takes kind.Open w s _ (else_takes kind.First w s None (λ e. absurd cc)))))))))
 
 module _ {A : Type 0} (read : List ℕ → Data → Result A Fault) (Is : A → Data → Type 0) (P : A → Type 0) (make : A → Node) where
   one_takes : ((path : List ℕ) (d : Data) (x : A) → read path d ≡ Ok x → Is x d × P x)
@@ -121,6 +122,9 @@ parts_takes path ds node kind.Siphon w e =
 parts_takes path ds node kind.Open w e =
     let r = one_takes index_at IsNumber (λ n. n < 2 ^ 32) Open PartLaws.index_takes path (codes "open") ds node w e in
     subst (Taken ds) r.1 (r.2, r.3)
+parts_takes path ds node kind.First w e =
+    let r = one_takes set_states_at (IsList IsNumber) IsSetWithin First PartLaws.states_at-takes path (codes "first") ds node w e in
+    subst (Taken ds) r.1 (r.2, r.3)
 
 by_kind_takes : (path s : List ℕ) (ds : List Data) (node : Node) (o : Option NodeKind) → kind_named s ≡ o → word_at path ds ≡ Ok s → by_kind path o ds ≡ Ok node → Taken ds node
 by_kind_takes path s ds node None is w e = absurd cc
@@ -153,6 +157,8 @@ parts_again path ds (Siphon set) parts fits =
     let t = one_again set_states_at (IsList IsNumber) IsSetWithin Siphon PartLaws.states_at-again path (codes "siphon") ds set parts fits in rw t.0 t.1
 parts_again path ds (Open f) parts fits =
     let t = one_again index_at IsNumber (λ n. n < 2 ^ 32) Open PartLaws.index_again path (codes "open") ds f parts fits in rw t.0 t.1
+parts_again path ds (First set) parts fits =
+    let t = one_again set_states_at (IsList IsNumber) IsSetWithin First PartLaws.states_at-again path (codes "first") ds set parts fits in rw t.0 t.1
 
 node_again : (path : List ℕ) (d : Data) (node : Node) → IsNode node d → IsNodeWithin node → node_at path d ≡ Ok node
 unfolding node_at

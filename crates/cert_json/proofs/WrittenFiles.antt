@@ -19,6 +19,7 @@ use Rattle.cert_base.specs.declared.fact.Term.{Term}
 use Rattle.cert_base.specs.declared.layer.Layer.{Layer}
 use Rattle.cert_base.specs.declared.node.Node.{Node}
 use Rattle.cert_base.specs.declared.node.Node.TheVariants.{Linear, Residue, Split, Present, Twin, Trap, Siphon, Open}
+use Rattle.cert_base.specs.declared.node.Node.TheVariants.{First}
 use Rattle.cert_base.specs.declared.proof.Proof.{Proof}
 use Rattle.cert_base.specs.declared.proof.LeafProof.{LeafProof}
 use Rattle.cert_base.specs.ProofLimits.{IsSmall, IsTermWithin, AreTermsWithin, IsSetWithin, IsNodeWithin, AreNodesWithin, IsLayerWithin, IsLeafProofWithin, IsProofWithin}
@@ -56,6 +57,7 @@ node_is (Twin p) fits = (items_of (string (codes "twin") ∷ number_data p ∷ [
 node_is (Trap set) fits = (items_of (string (codes "trap") ∷ numbers_data set ∷ []), refl, (refl, set_is set fits))
 node_is (Siphon set) fits = (items_of (string (codes "siphon") ∷ numbers_data set ∷ []), refl, (refl, set_is set fits))
 node_is (Open f) fits = (items_of (string (codes "open") ∷ number_data f ∷ []), refl, (refl, number_is f fits))
+node_is (First set) fits = (items_of (string (codes "first") ∷ numbers_data set ∷ []), refl, (refl, set_is set fits))
 
 nodes_are : (nodes : List Node) → AreNodesWithin nodes → IsList IsNode nodes (nodes_data nodes)
 nodes_are nodes fits = written_list IsNodeWithin IsNode node_data node_is nodes fits.1

@@ -17,6 +17,7 @@ use Rattle.cert_base.specs.declared.fact.Term.{Term}
 use Rattle.cert_base.specs.declared.layer.Layer.{Layer}
 use Rattle.cert_base.specs.declared.node.Node.{Node}
 use Rattle.cert_base.specs.declared.node.Node.TheVariants.{Linear, Residue, Split, Present, Twin, Trap, Siphon, Open}
+use Rattle.cert_base.specs.declared.node.Node.TheVariants.{First}
 use Rattle.cert_base.specs.declared.proof.Proof.{Proof}
 use Rattle.cert_base.specs.declared.proof.LeafProof.{LeafProof}
 use Rattle.cert_base.specs.declared.limits.TheConstants.{LAYER_LIMIT, NODE_LIMIT, TERM_LIMIT, SIZE_LIMIT}
@@ -129,6 +130,7 @@ after_word path kind.Twin ds = with_one state_at Twin path ds
 after_word path kind.Trap ds = with_one set_states_at Trap path ds
 after_word path kind.Siphon ds = with_one set_states_at Siphon path ds
 after_word path kind.Open ds = with_one index_at Open path ds
+after_word path kind.First ds = with_one set_states_at First path ds
 
 -- a word that no node has is refused before the number of items is looked at
 abbrev pub by_kind : List ℕ → Option NodeKind → List Data → Result Node Fault

@@ -9,6 +9,7 @@ use Rattle.cert_base.specs.declared.fact.Term.{Term}
 use Rattle.cert_base.specs.declared.layer.Layer.{Layer}
 use Rattle.cert_base.specs.declared.node.Node.{Node}
 use Rattle.cert_base.specs.declared.node.Node.TheVariants.{Linear, Residue, Split, Present, Twin, Trap, Siphon, Open}
+use Rattle.cert_base.specs.declared.node.Node.TheVariants.{First}
 use Rattle.cert_base.specs.declared.proof.Proof.{Proof}
 use Rattle.cert_base.specs.declared.proof.LeafProof.{LeafProof}
 
@@ -30,6 +31,7 @@ AreParts (Twin p) = BeginsWith (codes "twin") (IsOnly (IsNumber p))
 AreParts (Trap set) = BeginsWith (codes "trap") (IsOnly (IsList IsNumber set))
 AreParts (Siphon set) = BeginsWith (codes "siphon") (IsOnly (IsList IsNumber set))
 AreParts (Open f) = BeginsWith (codes "open") (IsOnly (IsNumber f))
+AreParts (First set) = BeginsWith (codes "first") (IsOnly (IsList IsNumber set))
 
 abbrev pub IsNode : Node → Data → Type 0
 IsNode node d = HasItems (AreParts node) d

@@ -8,6 +8,7 @@ use Rattle.cert_base.specs.declared.fact.Term.{Term}
 use Rattle.cert_base.specs.declared.layer.Layer.{Layer}
 use Rattle.cert_base.specs.declared.node.Node.{Node}
 use Rattle.cert_base.specs.declared.node.Node.TheVariants.{Linear, Residue, Split, Present, Twin, Trap, Siphon, Open}
+use Rattle.cert_base.specs.declared.node.Node.TheVariants.{First}
 use Rattle.cert_base.specs.declared.proof.Proof.{Proof}
 use Rattle.cert_base.specs.declared.proof.LeafProof.{LeafProof}
 
@@ -39,6 +40,7 @@ node_data (Twin p) = one_part (codes "twin") (number_data p)
 node_data (Trap set) = one_part (codes "trap") (numbers_data set)
 node_data (Siphon set) = one_part (codes "siphon") (numbers_data set)
 node_data (Open f) = one_part (codes "open") (number_data f)
+node_data (First set) = one_part (codes "first") (numbers_data set)
 
 abbrev pub nodes_data : List Node → Data
 nodes_data nodes = list_data (map node_data nodes)

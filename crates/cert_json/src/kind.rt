@@ -12,6 +12,7 @@ pub(crate) enum NodeKind {
     Trap,
     Siphon,
     Open,
+    First,
 }
 
 impl NodeKind {
@@ -29,6 +30,7 @@ impl NodeKind {
             "trap" => Some(NodeKind::Trap),
             "siphon" => Some(NodeKind::Siphon),
             "open" => Some(NodeKind::Open),
+            "first" => Some(NodeKind::First),
             _ => None,
         }
     }
@@ -45,6 +47,7 @@ impl NodeKind {
             NodeKind::Trap => "trap",
             NodeKind::Siphon => "siphon",
             NodeKind::Open => "open",
+            NodeKind::First => "first",
         }
     }
 }

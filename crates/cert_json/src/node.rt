@@ -91,6 +91,7 @@ fn after_word(
         NodeKind::Trap => set_after(alloc, path, items).map(Node::Trap),
         NodeKind::Siphon => set_after(alloc, path, items).map(Node::Siphon),
         NodeKind::Open => index_after(alloc, path, items).map(Node::Open),
+        NodeKind::First => set_after(alloc, path, items).map(Node::First),
     }
 }
 

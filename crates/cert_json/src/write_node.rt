@@ -94,6 +94,10 @@ fn node_value(alloc: Global, node: &Node) -> Result<Value, AllocError>
             one_value(alloc, NodeKind::Siphon, set)
         }
         Node::Open(fact) => one_value(alloc, NodeKind::Open, Value::from(*fact)),
+        Node::First(set) => {
+            let set = states_value(alloc, set.as_slice())?;
+            one_value(alloc, NodeKind::First, set)
+        }
     }
 }
 
