@@ -16,6 +16,7 @@ use Rattle.cert_base.specs.declared.fact.Term.{Term}
 use Rattle.cert_base.specs.declared.layer.Layer.{Layer}
 use Rattle.cert_base.specs.declared.node.Node.{Node}
 use Rattle.cert_base.specs.declared.node.Node.TheVariants.{Linear, Residue, Split, Present, Twin, Trap, Siphon, Open}
+use Rattle.cert_base.specs.declared.node.Node.TheVariants.{First}
 use Rattle.cert_base.specs.declared.proof.Proof.{Proof}
 use Rattle.cert_base.specs.declared.proof.LeafProof.{LeafProof}
 use Rattle.cert_base.specs.ProofLimits.{IsSmall, IsTermWithin, AreTermsWithin, IsSetWithin, IsNodeWithin, AreNodesWithin, IsLayerWithin, IsLeafProofWithin}
@@ -135,6 +136,7 @@ node_readable (Twin p) fits = one_readable (codes "twin") (number_data p) 0 (IsU
 node_readable (Trap set) fits = one_readable (codes "trap") (numbers_data set) 1 (IsUtf8-are_ascii _ refl) (omega arith) (set_readable set fits)
 node_readable (Siphon set) fits = one_readable (codes "siphon") (numbers_data set) 1 (IsUtf8-are_ascii _ refl) (omega arith) (set_readable set fits)
 node_readable (Open f) fits = one_readable (codes "open") (number_data f) 0 (IsUtf8-are_ascii _ refl) (omega arith) (number_readable f fits)
+node_readable (First set) fits = one_readable (codes "first") (numbers_data set) 1 (IsUtf8-are_ascii _ refl) (omega arith) (set_readable set fits)
 
 nodes_readable : (nodes : List Node) → AreNodesWithin nodes → IsReadable 4 (nodes_data nodes)
 nodes_readable nodes fits = readable_list IsNodeWithin node_data 3 node_readable nodes fits.1

@@ -156,6 +156,7 @@ fn write_node(alloc: Global, out: &mut Vec<u8>, node: &Node) -> Result<(), NoMem
         Node::Trap(set) => write_states(alloc, out, b"[\"trap\",", set.as_slice())?,
         Node::Siphon(set) => write_states(alloc, out, b"[\"siphon\",", set.as_slice())?,
         Node::Open(fact) => push_numbered(out, b"[\"open\",", u64::from(*fact))?,
+        Node::First(set) => write_states(alloc, out, b"[\"first\",", set.as_slice())?,
     }
     Ok(())
 }

@@ -29,3 +29,8 @@ pub returns-in_ok-write_states-in-Siphon : goal.returns-in_ok-write_states-in-Si
 unfolding escape_byte
 returns-in_ok-write_states-in-Siphon c =
     subst (λ (node : Node). c.write_states-in-Siphon.new.out.items ≡ c.args.out.now.items ++ compact_text (node_data node)) (sym c.in-Siphon.is) (rw c.as_slice-in-Siphon.ensures at c.in_ok-write_states-in-Siphon.ensures)
+
+pub returns-in_ok-write_states-in-First : goal.returns-in_ok-write_states-in-First
+unfolding escape_byte
+returns-in_ok-write_states-in-First c =
+    subst (λ (node : Node). c.write_states-in-First.new.out.items ≡ c.args.out.now.items ++ compact_text (node_data node)) (sym c.in-First.is) (rw c.as_slice-in-First.ensures at c.in_ok-write_states-in-First.ensures)
