@@ -98,6 +98,7 @@ def cases() -> dict[str, Case]:
         "check": (["check"], majority, None),
         "check of two leaves": (["check"], contents("and/bundle.json"), None),
         "check of goals": (["check"], goals, None),
+        "check with entries": (["check"], contents("stable/restless-flock.json"), None),
         "show": (["show"], majority, None),
         "compile": (["compile"], b"vars x\nx < 1\n", None),
         "compile --flocks": (["compile", "--flocks"], b"vars x\nx >= 4\n", None),
