@@ -10,6 +10,7 @@ from ..limits import SET_LIMIT
 from ..protocol.nets import FormatFault, Leaf, Net, compact, items, member, net_of
 from ..protocol.predicatereader import read_predicate
 from ..protocol.predicates import PredicateFault
+from .nodes import First as First
 from .nodes import Hole as Hole
 from .nodes import Layer as Layer
 from .nodes import Linear as Linear
@@ -27,6 +28,7 @@ from .nodes import Twin as Twin
 from .nodes import layer_of as layer_of
 from .nodes import node_of as node_of
 from .nodes import node_value as node_value
+from .nodes import set_word as set_word
 from .nodes import layer_value, layers_of, set_of, tree_of
 
 GOALS = "goals"

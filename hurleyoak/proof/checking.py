@@ -12,8 +12,9 @@ from ..protocol.nets import Leaf, Net, pair
 from ..protocol.predicatereader import read_predicate
 from ..protocol.predicates import Predicate
 from ..protocol.combining import combined_predicate
-from .bundles import Bundle, Goal, Layer, LeafProof, Linear, Node, Open, Part, Residue, Term, Twin
+from .bundles import Bundle, First, Goal, Layer, LeafProof, Linear, Node, Open, Part, Residue, Term, Twin
 from .ends import kept
+from .entries import entries_of
 from .staying import agents_before as agents_before
 from .staying import SetFault, sets_fault
 
@@ -146,7 +147,7 @@ def closes_by_residue(facts: Sequence[Fact], modulus: int, terms: Iterable[Term]
     return denied(facts, modulus, coefficients, constant) is not None
 
 
-def node_fault(space: Space, facts: Sequence[Fact], above: int, node: Node) -> str | None:
+def node_fault(space: Space, facts: list[Fact], above: int, node: Node) -> str | None:
     """Why a node is refused that has so many nodes above it, and these facts."""
     if above >= PATH_LIMIT:
         return "too-deep"
@@ -165,25 +166,50 @@ def node_fault(space: Space, facts: Sequence[Fact], above: int, node: Node) -> s
         return "no-twin"
     if isinstance(node, Open) and facts[node.fact].kind != HOLDS:
         return "not-open"
-    if any(len(facts) + len(case) > FACT_LIMIT for case in cases_of(space, facts, node)):
+    if any(case.count > FACT_LIMIT for case in _waiting(space, facts, above, node)):
         return "too-many-facts"
     return None
 
 
+@dataclass
+class _Case:
+    """A case that waits for its nodes: the nodes above it, and its own facts behind the first ones of a list."""
+
+    above: int
+    space: Space
+    facts: list[Fact]
+    kept: int
+    own: list[Fact]
+
+    @property
+    def count(self) -> int:
+        """How many facts it has."""
+        return self.kept + len(self.own)
+
+
+def _waiting(space: Space, facts: list[Fact], above: int, node: Node) -> list[_Case]:
+    """The cases of a node, in order; those of an entry have a list of their own."""
+    cases = [_Case(above + 1, space, facts, len(facts), own) for own in cases_of(space, facts, node)]
+    if not isinstance(node, First) or not space.is_in_range(node):
+        return cases
+    entries = entries_of(space, facts, node)
+    count = len(entries.facts)
+    return [_Case(above + 1, entries.space, entries.facts, count, own) for own in entries.cases] + cases
+
+
 def tree_fault(space: Space, tree: Predicate, value: bool, nodes: Sequence[Node]) -> TreeFault | None:
     """The first node of a tree in preorder that is refused, and why."""
-    facts = space.base(tree, value)
-    waiting: list[tuple[int, int, list[Fact]]] = [(0, len(facts), [])]
+    waiting = [_Case(0, space, [], 0, space.base(tree, value))]
     for number, node in enumerate(nodes):
         if not waiting:
             return TreeFault(number, "rest")
-        above, kept, own = waiting.pop()
-        del facts[kept:]
-        facts += own
-        why = node_fault(space, facts, above, node)
+        case = waiting.pop()
+        facts = case.facts
+        facts[case.kept :] = case.own
+        why = node_fault(case.space, facts, case.above, node)
         if why is not None:
             return TreeFault(number, why)
-        waiting += [(above + 1, len(facts), case) for case in reversed(cases_of(space, facts, node))]
+        waiting += reversed(_waiting(case.space, facts, case.above, node))
     return TreeFault(len(nodes), "missing") if waiting else None
 
 

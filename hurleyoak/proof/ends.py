@@ -8,6 +8,8 @@ from .bundles import Goal
 
 SILENT = (0, 0, 0, 0)  # a move that changes nothing, in the place of one that is left out
 
+STILL = Goal((), (), ())  # nothing is dead: each crowd is an end, also one before a set is entered
+
 
 def partners_of(leaf: Leaf, goal: Goal | None) -> tuple[frozenset[int], ...]:
     """For each state those that it can't stand beside at an end, itself among them where two of it can't."""

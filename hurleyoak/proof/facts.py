@@ -12,7 +12,7 @@ from typing import Iterable, Iterator, Sequence
 
 from ..protocol.nets import Leaf
 from ..protocol.predicates import And, Less, Not, Or, Predicate, Rest
-from .bundles import Goal, Node, Open, Present, Siphon, Split, Term, Trap, Twin
+from .bundles import First, Goal, Node, Open, Present, Siphon, Split, Term, Trap, Twin
 from .ends import partners_of, sets_of
 
 
@@ -115,13 +115,13 @@ class Space:
         """Whether the states and variables that a node names are there (facts are the branch's matter)."""
         if isinstance(node, (Present, Twin)):
             return node.state < self.states
-        if isinstance(node, (Trap, Siphon)):
+        if isinstance(node, (Trap, Siphon, First)):
             return all(q < self.states for q in node.states)
         return not isinstance(node, Split) or all(a < self.variables for a, _ in node.terms)
 
     def cases(self, node: Node, most: int = 3) -> list[list[Fact]]:
         """The facts of each case of a node other than `open`, or of the first ones alone; none at `lin` and
-        `residue`."""
+        `residue`. Those of `first` are the two behind its entries."""
         return list(islice(self._cases(node), most))
 
     def _cases(self, node: Node) -> Iterator[list[Fact]]:
@@ -135,7 +135,7 @@ class Space:
             return self._siphon(node.states)
         if isinstance(node, Split):
             return self._split(node.terms, node.constant)
-        return iter(())
+        return self._first(node.states) if isinstance(node, First) else iter(())
 
     def _present(self, p: int) -> Iterator[list[Fact]]:
         own = [(self.count(p), 1)]
@@ -149,25 +149,44 @@ class Space:
         return [m[0] in states or m[1] in states for m in moves], [m[2] in states or m[3] in states for m in moves]
 
     def _trap(self, key: Sequence[int]) -> Iterator[list[Fact]]:
-        states = set(key)
-        takes, puts = self._takes_puts(states)
-        total = [(self.count(q), 1) for q in key]
-        helpers = sum(self.leaf.helper_counts[q] for q in key)
+        takes, puts = self._takes_puts(set(key))
         yield [at_least(((self.taken(t), 1) for t in range(self.moves) if takes[t] and not puts[t]), -1)]
-        never = [equal([(self.taken(t), 1)]) for t in range(self.moves) if puts[t]]
-        never += [equal([(i, 1)]) for i, q in enumerate(self.leaf.inputs) if q in states]
-        never.append(equal(total))
-        yield never + [equal((), helpers)] if helpers else never
-        yield [at_least(total, -1)]
+        yield [equal([(self.taken(t), 1)]) for t in range(self.moves) if puts[t]] + self.unmarked(key)
+        yield [at_least(((self.count(q), 1) for q in key), -1)]
+
+    def unmarked(self, key: Sequence[int]) -> list[Fact]:
+        """That nobody starts in a set, and nobody is in it."""
+        states = set(key)
+        helpers = sum(self.leaf.helper_counts[q] for q in key)
+        out = [equal([(i, 1)]) for i, q in enumerate(self.leaf.inputs) if q in states]
+        out.append(equal((self.count(q), 1) for q in key))
+        return out + [equal((), helpers)] if helpers else out
 
     def _siphon(self, key: Sequence[int]) -> Iterator[list[Fact]]:
-        states = set(key)
-        takes, puts = self._takes_puts(states)
-        helpers = sum(self.leaf.helper_counts[q] for q in key)
+        takes, puts = self._takes_puts(set(key))
         yield [at_least(((self.taken(t), 1) for t in range(self.moves) if puts[t] and not takes[t]), -1)]
-        yield [at_least(((i, 1) for i, q in enumerate(self.leaf.inputs) if q in states), helpers - 1)]
+        yield [self._started(key)]
         never = [equal([(self.taken(t), 1)]) for t in range(self.moves) if takes[t]]
         yield never + [equal((self.count(q), 1) for q in key)]
+
+    def _started(self, key: Sequence[int]) -> Fact:
+        """That somebody starts in a set."""
+        helpers = sum(self.leaf.helper_counts[q] for q in key)
+        return at_least(((i, 1) for i, q in enumerate(self.leaf.inputs) if q in set(key)), helpers - 1)
+
+    def _first(self, key: Sequence[int]) -> Iterator[list[Fact]]:
+        yield [self._started(key)]
+        yield [*self.untouched(key), equal((self.count(q), 1) for q in key)]
+
+    def untouched(self, key: Sequence[int]) -> list[Fact]:
+        """That no move was taken that takes a state of a set or puts one."""
+        takes, puts = self._takes_puts(set(key))
+        return [equal([(self.taken(t), 1)]) for t in range(self.moves) if takes[t] or puts[t]]
+
+    def entering(self, key: Sequence[int]) -> list[int]:
+        """The moves that put a state of a set and take none."""
+        takes, puts = self._takes_puts(set(key))
+        return [t for t in range(self.moves) if puts[t] and not takes[t]]
 
     def _split(self, terms: Sequence[Term], constant: int) -> Iterator[list[Fact]]:
         row = [(a, k) for a, k in terms if k]

@@ -7,7 +7,6 @@ from typing import Mapping, Sequence
 
 from .branches import Branch, visits
 from .checking import total
-from .facts import Space, cases_of
 from ..faults import InputFault
 from .names import Names
 from ..protocol.nets import Item, Leaf, Net
@@ -68,21 +67,17 @@ def moved_tree(
 
     `trees` are the predicate over the variables before and after; `variables` gives each old variable's new number.
     """
-    space, new = Space(after.leaf, after.goal), Branch()
-    waiting = [(0, space.base(trees[1], value), after.base())]
+    waiting = [Branch(after).base(trees[1], value)]
     out: list[Node] = []
     for visit in visits(before, trees[0], value, nodes):
         if visit.node is None or visit.why:
             raise Lost(f"node {visit.number}")
-        kept, own, own_names = waiting.pop()
-        new.enter(kept, own, own_names)
+        new = waiting.pop().enter()
         node = _moved(visit.node, visit.branch, new, variables)
         if isinstance(node, Linear):
             node = _mended(node, new, after.variables)
         out.append(node)
-        cases = cases_of(space, new.facts, node)
-        labels = after.cases(node, new.facts, new.names) if cases else []
-        waiting += reversed([(len(new.facts), facts, names) for (_, names), facts in zip(labels, cases)])
+        waiting += reversed(new.cases(node))
     return tuple(out)
 
 

@@ -5,14 +5,16 @@ import re
 from functools import cached_property
 from typing import Iterable, Sequence
 
-from .facts import AT_LEAST, DIVIDES, EQUAL, HOLDS, NOT_DIVIDES, Fact
+from .facts import AT_LEAST, DIVIDES, EQUAL, HOLDS, NOT_DIVIDES, Fact, Space
 from ..protocol.nets import Leaf
 from ..protocol.predicates import And, Less, Not, Or, Rest, canonical_text
-from .bundles import Goal, Node, Open, Present, Siphon, Split, Term, Trap, Twin
-from .ends import partners_of
+from .bundles import First, Goal, Node, Open, Present, Siphon, Split, Term, Trap, Twin, set_word
+from .ends import STILL, partners_of
+from .entries import is_about_inputs
 from ..protocol.naming import state_text
 
 NO_LABEL = ""
+BY = "by"  # the label of an entry, before its move
 _ORDINAL = re.compile(r"/[0-9]+$")
 
 
@@ -83,11 +85,14 @@ class Names:
     def base(self) -> list[str]:
         """The names of the base facts; a name that comes again gets a number by its branch."""
         wrong = ["outside"] * len(self.goal.sets) if self.goal and self.goal.sets else ["wrong"]
-        return [*(f"flow({self.state(q)})" for q in range(len(self.leaf.states))), "agents", "predicate", *wrong]
+        return [*self._flow(), "agents", "predicate", *wrong]
+
+    def _flow(self) -> list[str]:
+        return [f"flow({self.state(q)})" for q in range(len(self.leaf.states))]
 
     def cases(self, node: Node, facts: Sequence[Fact], names: Sequence[str]) -> list[tuple[str, list[str]]]:
         """The label of each case of a node that is in range, and the names of its facts; a node's only case has no
-        label."""
+        label. Those of `first` are the two behind its entries."""
         if isinstance(node, Present):
             return self._present(node.state)
         if isinstance(node, Twin):
@@ -101,7 +106,7 @@ class Names:
             return [(word, [f"{word}({text})"]) for word in ("above", "equal", "below")]
         if isinstance(node, Open) and node.fact < len(facts):
             return self._open(facts[node.fact], names[node.fact])
-        return []
+        return self._first(node.states) if isinstance(node, First) else []
 
     def _present(self, p: int) -> list[tuple[str, list[str]]]:
         partners = self.partners[p]
@@ -111,23 +116,45 @@ class Names:
             ("here", here + ([f"one({self.state(p)})"] if p in partners else [])),
         ]
 
-    def _never(self, states: set[int], first: int) -> list[str]:
-        moves = self.leaf.moves
-        return [f"never[{self.move(t)}]" for t, m in enumerate(moves) if m[first] in states or m[first + 1] in states]
+    def _never(self, key: Sequence[int], places: slice) -> list[str]:
+        states = set(key)
+        return [f"never[{self.move(t)}]" for t, m in enumerate(self.leaf.moves) if not states.isdisjoint(list(m)[places])]
+
+    def _unmarked(self, key: Sequence[int]) -> list[str]:
+        states, text = set(key), self.braces(key)
+        out = [f"none({self.variables[i]})" for i, q in enumerate(self.leaf.inputs) if q in states]
+        out.append(f"empty{text}")
+        return out + ([f"helped{text}"] if any(self.leaf.helper_counts[q] for q in key) else [])
 
     def _trap(self, key: Sequence[int]) -> list[tuple[str, list[str]]]:
-        states, text = set(key), self.braces(key)
-        never = self._never(states, 2)
-        never += [f"none({self.variables[i]})" for i, q in enumerate(self.leaf.inputs) if q in states]
-        never.append(f"empty{text}")
-        if any(self.leaf.helper_counts[q] for q in key):
-            never.append(f"helped{text}")
+        text = self.braces(key)
+        never = self._never(key, slice(2, 4)) + self._unmarked(key)
         return [("leaves", [f"leaves{text}"]), ("never", never), ("some", [f"some{text}"])]
 
     def _siphon(self, key: Sequence[int]) -> list[tuple[str, list[str]]]:
         text = self.braces(key)
-        never = self._never(set(key), 0) + [f"empty{text}"]
+        never = self._never(key, slice(2)) + [f"empty{text}"]
         return [("enters", [f"enters{text}"]), ("starts", [f"starts{text}"]), ("never", never)]
+
+    def _first(self, key: Sequence[int]) -> list[tuple[str, list[str]]]:
+        text = self.braces(key)
+        never = self._never(key, slice(4)) + [f"empty{text}"]
+        return [("starts", [f"starts{text}"]), ("never", never)]
+
+    def still(self) -> Names:
+        """Names for the crowd before a set is entered."""
+        return Names(self.variables, self.leaf, STILL)
+
+    def before(self, space: Space, node: First, facts: Sequence[Fact], names: Sequence[str]) -> list[str]:
+        """The names of what holds before a set is entered, in a branch with these facts and names."""
+        known = [name for fact, name in zip(facts, names) if is_about_inputs(space, fact)]
+        return [*self._flow(), *known, *self._never(node.states, slice(4)), *self._unmarked(node.states)]
+
+    def entry(self, t: int) -> tuple[str, list[str]]:
+        """The label of the case in which this move enters, and the names of its facts."""
+        p, q = self.leaf.moves[t][:2]
+        names = [f"two({self.state(p)})"] if p == q else [f"here({self.state(p)})", f"here({self.state(q)})"]
+        return f"{BY} [{self.move(t)}]", names
 
     @staticmethod
     def _open(fact: Fact, name: str) -> list[tuple[str, list[str]]]:
@@ -150,8 +177,8 @@ class Names:
             return f"present {self.state(node.state)}"
         if isinstance(node, Twin):
             return f"twin {self.state(node.state)}"
-        if isinstance(node, (Trap, Siphon)):
-            return f"{'trap' if isinstance(node, Trap) else 'siphon'} {self.braces(node.states)}"
+        if isinstance(node, (Trap, Siphon, First)):
+            return f"{set_word(node)} {self.braces(node.states)}"
         if isinstance(node, Split):
             return f"split {self.sum(node.terms, node.constant)}"
         assert isinstance(node, Open)

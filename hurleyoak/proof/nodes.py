@@ -82,6 +82,13 @@ class Open:
 
 
 @dataclass(frozen=True)
+class First:
+    """A move enters a set of states in which nobody was before; or somebody started there; or nobody ever was in it."""
+
+    states: tuple[int, ...]
+
+
+@dataclass(frozen=True)
 class Hole:
     """A part that is to be found; `kind` is `tree`, or `lin` or `residue` with its modulus. No file of a bundle has
     one."""
@@ -90,7 +97,7 @@ class Hole:
     modulus: int = 0
 
 
-Node = Union[Linear, Residue, Split, Present, Twin, Trap, Siphon, Open]
+Node = Union[Linear, Residue, Split, Present, Twin, Trap, Siphon, Open, First]
 Tree = tuple[Node, ...]
 
 
@@ -107,6 +114,14 @@ class Layer:
         return max(self.weights) - min(self.weights) if self.weights else 0
 
 
+_SET_WORDS: dict[type[Trap] | type[Siphon] | type[First], str] = {Trap: "trap", Siphon: "siphon", First: "first"}
+
+
+def set_word(node: Trap | Siphon | First) -> str:
+    """The word of a node that names a set."""
+    return _SET_WORDS[type(node)]
+
+
 def node_value(node: Node) -> list[Any]:
     """The JSON list of a node."""
     if isinstance(node, Linear):
@@ -115,8 +130,8 @@ def node_value(node: Node) -> list[Any]:
         return ["residue", node.modulus, [list(t) for t in node.terms]]
     if isinstance(node, Split):
         return ["split", [list(t) for t in node.terms], node.constant]
-    if isinstance(node, (Trap, Siphon)):
-        return ["trap" if isinstance(node, Trap) else "siphon", list(node.states)]
+    if isinstance(node, (Trap, Siphon, First)):
+        return [set_word(node), list(node.states)]
     if isinstance(node, Open):
         return ["open", node.fact]
     return ["present" if isinstance(node, Present) else "twin", node.state]
@@ -151,7 +166,8 @@ def set_of(value: Any, path: str) -> tuple[int, ...]:
     return tuple(out)
 
 
-_ITEMS = {"lin": 2, "residue": 3, "split": 3, "present": 2, "twin": 2, "trap": 2, "siphon": 2, "open": 2}
+_OF_SETS: dict[str, type[Trap] | type[Siphon] | type[First]] = {word: kind for kind, word in _SET_WORDS.items()}
+_ITEMS = {"lin": 2, "residue": 3, "split": 3, "present": 2, "twin": 2, "trap": 2, "siphon": 2, "open": 2, "first": 2}
 
 
 def node_of(value: Any, path: str) -> Node:
@@ -173,9 +189,8 @@ def node_of(value: Any, path: str) -> Node:
         )
     if word == "split":
         return Split(_terms(value[1], f"{path}/1", True), whole(value[2], f"{path}/2", -SIZE_LIMIT, SIZE_LIMIT))
-    if word in ("trap", "siphon"):
-        states = set_of(value[1], f"{path}/1")
-        return Trap(states) if word == "trap" else Siphon(states)
+    if word in _OF_SETS:
+        return _OF_SETS[word](set_of(value[1], f"{path}/1"))
     if word == "open":
         return Open(whole(value[1], f"{path}/1", 0, NUMBER_LIMIT))
     state = whole(value[1], f"{path}/1", 0, STATE_NUMBER_LIMIT)

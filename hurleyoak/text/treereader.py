@@ -5,19 +5,19 @@ A part may be left open by `?`; it is then a Hole, which `find` fills.
 from __future__ import annotations
 
 import difflib
-from dataclasses import dataclass
+from dataclasses import dataclass, replace
 from typing import Union
 
-from ..proof.branches import Branch
+from ..proof.branches import Branch, NamedCase
 from .factnames import LeafReader, Unknown, read_sum
-from ..proof.facts import Fact, Space, cases_of
 from .jsontext import read_json
-from ..proof.names import NO_LABEL, Names
+from ..proof.names import BY, NO_LABEL, Names
 from .madeleaf import MadeLeaf
 from ..protocol.nets import FormatFault
 from .popsections import HOLE, TreeText
 from ..protocol.predicates import Predicate
-from ..proof.bundles import Hole, Linear, Node, Open, Present, Residue, Siphon, Split, Term, Trap, Twin, node_of
+from ..proof.bundles import First, Hole, Linear, Node, Open, Present, Residue, Siphon, Split, Term, Trap, Twin
+from ..proof.bundles import node_of
 from .scanner import NUMBER, WORD, Line, Place
 from ..wholes import whole_of
 
@@ -38,15 +38,14 @@ class Note:
 
 @dataclass(kw_only=True)
 class _Waiting:
-    """A case that waits for its nodes: its label, whose case it is, how deep its line has to stand, and its facts."""
+    """A case that waits for its nodes: its facts, whose case it is, and how deep its line has to stand. Where its label
+    stood on a line before, it has none."""
 
+    case: NamedCase
     label: str
     owner: str
     owner_line: int
     deeper_than: int
-    kept: int
-    own: list[Fact]
-    own_names: list[str]
     group: list[int]
 
 
@@ -58,22 +57,11 @@ class TreeReader:
     ) -> None:
         self.names, self.reader, self.value = names, LeafReader(made, names), value
         self.notes, self.holes = notes, holes
-        self.space = Space(made.leaf, names.goal)
-        self.branch = Branch()
+        self.branch = Branch(names)
         self.nodes: list[DraftNode] = []
         self.lines: list[int] = []
-        self.waiting = [
-            _Waiting(
-                label=NO_LABEL,
-                owner="",
-                owner_line=0,
-                deeper_than=-1,
-                kept=0,
-                own=self.space.base(tree, value),
-                own_names=names.base(),
-                group=[],
-            )
-        ]
+        top = self.branch.base(tree, value)
+        self.waiting = [_Waiting(case=top, label=NO_LABEL, owner="", owner_line=0, deeper_than=-1, group=[])]
         self.is_cut = False
 
     def read(self, text: TreeText) -> list[DraftNode]:
@@ -113,8 +101,7 @@ class TreeReader:
         case = self.waiting[-1]
         at = line.at
         place = line.place()
-        word = line.matches(WORD)
-        label = word if word is not None and word not in ("residue",) and line.takes(":") else NO_LABEL
+        label = self._label(line)
         if not label:
             line.at = at
         if label != case.label:
@@ -133,22 +120,23 @@ class TreeReader:
             )
         case.group.append(line.indent)
         self.waiting.pop()
-        self.branch.enter(case.kept, case.own, case.own_names)
+        self.branch = case.case.enter()
         if label and line.is_done():
-            self.waiting.append(
-                _Waiting(
-                    label=NO_LABEL,
-                    owner=case.owner,
-                    owner_line=case.owner_line,
-                    deeper_than=line.indent,
-                    kept=len(self.branch.facts),
-                    own=[],
-                    own_names=[],
-                    group=[],
-                )
-            )
+            self.waiting.append(replace(case, label=NO_LABEL, deeper_than=line.indent, group=[]))
             return
         self._node(line, line.indent if label else line.indent - 1)
+
+    def _label(self, line: Line) -> str:
+        """The label with which a line begins, if it does: a word, or `by` and a move, and `:`."""
+        word = line.matches(WORD)
+        if word is None or word == "residue":
+            return NO_LABEL
+        if word == BY and line.takes("["):
+            try:
+                word = f"{BY} [{self.names.move(self.reader.move(line, ']'))}]"
+            except Unknown as unknown:
+                raise unknown.place.fault(unknown.told) from None
+        return word if line.takes(":") else NO_LABEL
 
     def _node(self, line: Line, deeper_than: int) -> None:
         number, start = line.number, line.at
@@ -162,21 +150,16 @@ class TreeReader:
         self.nodes.append(node)
         if isinstance(node, Hole):
             return
-        cases = cases_of(self.space, self.branch.facts, node)
-        labels = self.names.cases(node, self.branch.facts, self.branch.names) if cases else []
         group: list[int] = []
-        for (label, own_names), own in reversed(list(zip(labels, cases))):
-            least = line.indent if label else deeper_than
+        for case in reversed(self.branch.cases(node)):
             self.waiting.append(
                 _Waiting(
-                    label=label,
+                    case=case,
+                    label=case.label,
                     owner=text,
                     owner_line=number,
-                    deeper_than=least,
-                    kept=len(self.branch.facts),
-                    own=own,
-                    own_names=own_names,
-                    group=group if label else [],
+                    deeper_than=line.indent if case.label else deeper_than,
+                    group=group if case.label else [],
                 )
             )
 
@@ -202,6 +185,8 @@ class TreeReader:
             return Trap(self.reader.states(line))
         if word == "siphon":
             return Siphon(self.reader.states(line))
+        if word == "first":
+            return First(self.reader.states(line))
         if word == "open":
             found = self._fact(line)
             if isinstance(found, Unknown):
@@ -210,7 +195,7 @@ class TreeReader:
         if word == "node":
             return self._raw(line)
         raise place.fault(
-            "expected a node: `open`, `present`, `twin`, `trap`, `siphon`, `split`, `lin`, `residue` or `?`"
+            "expected a node: `open`, `present`, `twin`, `trap`, `siphon`, `first`, `split`, `lin`, `residue` or `?`"
         )
 
     def _raw(self, line: Line) -> Node:

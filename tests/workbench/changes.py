@@ -137,7 +137,7 @@ def change_node(value: Value, rng: random.Random) -> None:
         nodes[at], nodes[other] = nodes[other], nodes[at]
     elif node[0] in ("present", "twin", "open"):
         node[1] = max(0, node[1] + rng.choice([-1, 1, 2]))
-    elif node[0] in ("trap", "siphon"):
+    elif node[0] in ("trap", "siphon", "first"):
         node[1] = sorted(set(node[1]) ^ {rng.randrange(6)})
     elif node[0] == "residue":
         node[1] = rng.choice([2, 3, 5])
@@ -155,6 +155,7 @@ def insert_node(value: Value, rng: random.Random) -> None:
             ["split", [[rng.randrange(5), 1]], -1],
             ["trap", [rng.randrange(4)]],
             ["siphon", [rng.randrange(4)]],
+            ["first", [rng.randrange(4)]],
         ]
     )
     nodes.insert(rng.randrange(len(nodes) + 1), made)

@@ -17,6 +17,7 @@ from hurleyoak.text.loaded import strict_bundle
 from hurleyoak.protocol.nets import FormatFault, Leaf, Net, compact, net_of
 from hurleyoak.proof.bundles import (
     Bundle,
+    First,
     Layer,
     LeafProof,
     Linear,
@@ -138,6 +139,7 @@ def bundles(draw: Any) -> Bundle:
         st.builds(Twin, st.integers(0, 5)),
         st.builds(Trap, states),
         st.builds(Siphon, states),
+        st.builds(First, states),
         st.builds(Open, number),
     )
     tree = st.lists(node, max_size=6).map(lambda t: tuple(t))
