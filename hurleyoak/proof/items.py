@@ -13,7 +13,8 @@ import numpy as np
 from .facts import AT_LEAST, DIVIDES, EQUAL, HOLDS, NOT_DIVIDES, Fact, Space, FactKind
 from ..protocol.nets import Leaf
 from ..protocol.predicates import Predicate
-from .bundles import Goal, Node, Present, Siphon, Split, Trap, Twin
+from .ends import STILL
+from .bundles import First, Goal, Node, Present, Siphon, Split, Trap, Twin
 
 Array = Any
 
@@ -58,10 +59,11 @@ class Row:
 class Zeros:
     """Facts that each say that one variable is 0."""
 
-    __slots__ = ("variables", "price")
+    __slots__ = ("variables", "price", "input_part")
 
     def __init__(self, variables: Array, price: float = USUAL) -> None:
         self.variables, self.price = variables, price
+        self.input_part: "Zeros | None" = None  # the facts on inputs alone, once they were asked for
 
     def __len__(self) -> int:
         return len(self.variables)
@@ -125,6 +127,11 @@ class Cases:
             out[p, list(states)] = True
         return out
 
+    @cached_property
+    def still(self) -> "Cases":
+        """The same of crowds before a set is entered, at which nothing is dead."""
+        return self if self.space.goal is STILL else Cases(self.leaf, STILL)
+
     def base(self, tree: Predicate, value: bool) -> Case:
         """The facts of every wrong end."""
         return [row_of(fact, CHEAP) for fact in self.space.base(tree, value)]
@@ -147,7 +154,7 @@ class Cases:
             return self._siphon(node.states)
         if isinstance(node, Split):
             return iter([[row_of(fact) for fact in case] for case in self.space.cases(node)])
-        return iter(())
+        return self._first(node.states) if isinstance(node, First) else iter(())
 
     def _row(
         self, kind: FactKind, variables: Sequence[int], numbers: Sequence[int], constant: int, price: float = USUAL
@@ -177,31 +184,57 @@ class Cases:
     def _numbers(self, mask: Array) -> Array:
         return np.nonzero(mask)[0] + self.first_move
 
+    def _empty(self, states: Sequence[int], moves: Array, inputs: Array) -> Case:
+        """These moves weren't taken, nobody started by these inputs, and nobody is in the set."""
+        never = np.concatenate([self._numbers(moves), inputs])
+        return [*([Zeros(never)] if len(never) else []), self._sum(EQUAL, self._counts(states), 0)]
+
+    def _counts(self, states: Sequence[int]) -> Array:
+        return np.array(states, dtype=np.int64) + self.inputs
+
+    def _starting(self, states: Sequence[int]) -> tuple[Array, int]:
+        """The inputs that start in a set, and how many helpers do."""
+        return np.nonzero(self.inside(states)[self.starts])[0], int(self.helpers[list(states)].sum())
+
+    def _unmarked(self, states: Sequence[int], moves: Array) -> Case:
+        """These moves weren't taken, and nobody started in the set or is in it."""
+        inputs, helpers = self._starting(states)
+        case = self._empty(states, moves, inputs)
+        return [*case, self._sum(EQUAL, np.zeros(0, dtype=np.int64), helpers)] if helpers else case
+
     def _trap(self, states: Sequence[int]) -> Iterator[Case]:
         takes, puts = self._both(states)
-        total = np.array(states, dtype=np.int64) + self.inputs
         yield [self._sum(AT_LEAST, self._numbers(takes & ~puts), -1)]
-        never = np.concatenate([self._numbers(puts), np.nonzero(self.inside(states)[self.starts])[0]])
-        case: Case = [Zeros(never)] if len(never) else []
-        case.append(self._sum(EQUAL, total, 0))
-        helpers = int(self.helpers[list(states)].sum())
-        if helpers:
-            case.append(self._sum(EQUAL, np.zeros(0, dtype=np.int64), helpers))
-        yield case
-        yield [self._sum(AT_LEAST, total, -1)]
+        yield self._unmarked(states, puts)
+        yield [self._sum(AT_LEAST, self._counts(states), -1)]
 
     def _siphon(self, states: Sequence[int]) -> Iterator[Case]:
         takes, puts = self._both(states)
-        total = np.array(states, dtype=np.int64) + self.inputs
+        inputs, helpers = self._starting(states)
         yield [self._sum(AT_LEAST, self._numbers(puts & ~takes), -1)]
-        yield [
-            self._sum(
-                AT_LEAST, np.nonzero(self.inside(states)[self.starts])[0], int(self.helpers[list(states)].sum()) - 1
-            )
-        ]
-        never = self._numbers(takes)
-        case: Case = [Zeros(never)] if len(never) else []
-        yield case + [self._sum(EQUAL, total, 0)]
+        yield [self._sum(AT_LEAST, inputs, helpers - 1)]
+        yield self._empty(states, takes, inputs[:0])
+
+    def _first(self, states: Sequence[int]) -> Iterator[Case]:
+        takes, puts = self._both(states)
+        inputs, helpers = self._starting(states)
+        yield [self._sum(AT_LEAST, inputs, helpers - 1)]
+        yield self._empty(states, takes | puts, inputs[:0])
+
+    def before(self, states: Sequence[int]) -> tuple[Case, Case]:
+        """What holds of each crowd before a set is entered: the flow facts; and behind those of the input, that nobody
+        was in it."""
+        takes, puts = self._both(states)
+        return [row_of(fact, CHEAP) for fact in self.space.flow()], self._unmarked(states, takes | puts)
+
+    def about_inputs(self, item: Item) -> Item | None:
+        """An item, or the part of it, that speaks of the inputs alone."""
+        if isinstance(item, Row):
+            return item if item.kind == HOLDS or bool((item.variables < self.inputs).all()) else None
+        if item.input_part is None:
+            kept = item.variables[item.variables < self.inputs]
+            item.input_part = item if len(kept) == len(item.variables) else Zeros(kept, item.price)
+        return item.input_part if len(item.input_part) else None
 
 
 def is_modular(item: Item) -> bool:

@@ -60,12 +60,12 @@ class Tried:
 class Branch:
     """The stack of a search with its solver."""
 
-    def __init__(self, cases: Cases, tree: Predicate, value: bool, limit: Limit, exact: bool) -> None:
-        self.cases, self.limit = cases, limit
+    def __init__(self, cases: Cases, base: Case, limit: Limit, exact: bool) -> None:
+        self.cases, self.limit, self.exact = cases, limit, exact
         self.sets = Sets(cases)
         self.solver: Solver = ExactSolver(cases, limit) if exact else Solver(cases)
         self.residues = Residues(cases.variables, cases.first_move)
-        self.base = cases.base(tree, value)
+        self.base = base
         self.failed = {"siphon": 0, "trap": 0}
         self.seen = np.zeros(cases.moves, dtype=bool)
         self.kept: deque[Array] = deque(maxlen=KEPT)

@@ -10,6 +10,7 @@ import numpy as np
 from ..proof.facts import AT_LEAST, EQUAL, HOLDS
 from ..proof.bundles import Node
 from ..proof.items import Array, Case, Item, Row, Zeros, is_modular
+from .trees import Entered
 
 EPSILON = 1e-6
 POOL = 16  # known points that are kept for a branch
@@ -24,6 +25,7 @@ class Lemma:
     cases: list[Case]
     main: int
     at: int = 0
+    entered: Entered | None = None
 
 
 class Frame:

@@ -4,17 +4,34 @@ from __future__ import annotations
 from dataclasses import replace
 from typing import Sequence
 
-from ..proof.bundles import Goal
+from ..proof.bundles import Goal, Tree
 from ..protocol.nets import Leaf
 from ..protocol.predicates import Predicate
 from ..text.proofreader import GoalDraft
 from ..text.treereader import DraftNode
 from .branch import GaveUp, WrongEnd
+from .entering import DEEPEST
 from .goals import NoGoal as NoGoal
 from .goals import find_goal as find_goal
 from .layerjob import NoLayers, fill_layers
 from .solver import Trouble
 from .treefinder import find_tree
+
+
+def _nodes(
+    leaf: Leaf,
+    tree: Predicate,
+    value: bool,
+    nodes: Sequence[DraftNode] | None,
+    deadline: float,
+    small: float,
+    goal: Goal,
+) -> Tree:
+    """The tree of a goal; with `first` in it where none is found without."""
+    try:
+        return find_tree(leaf, tree, value, nodes, deadline, small, goal)
+    except (WrongEnd, GaveUp, Trouble):
+        return find_tree(leaf, tree, value, nodes, deadline, small, goal, DEEPEST)
 
 
 def fill_goal(
@@ -30,7 +47,7 @@ def fill_goal(
     try:
         layers = tuple(fill_layers(leaf, draft.layers or (), deadline))
         goal = Goal(layers, draft.sets, ())
-        return replace(goal, nodes=find_tree(leaf, tree, value, nodes, deadline, small, goal))
+        return replace(goal, nodes=_nodes(leaf, tree, value, nodes, deadline, small, goal))
     except NoLayers as none:
         raise NoGoal(none.told) from None
     except WrongEnd:

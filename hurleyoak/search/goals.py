@@ -12,6 +12,7 @@ from ..proof.staying import stay_of
 from ..protocol.nets import Leaf
 from ..protocol.predicates import Predicate
 from .branch import GaveUp, WrongEnd
+from .entering import DEEPEST
 from .howfar import note
 from .keeping import kept_sets
 from .limits import clock
@@ -21,6 +22,7 @@ from .treefinder import find_tree
 from .waking import Moves
 
 TRIES = 60
+ENTRY_TRIES = 12
 TREE_SECONDS = 15.0
 MANY = 150  # moves above which none are inserted one by one
 SEED = 1
@@ -40,9 +42,11 @@ class GoalFinder:
         self.rng = random.Random(SEED)
         self.missing: dict[int, int] = {}  # how often a move was possible at a candidate for a wrong end
         self.seen: set[Moves] = set()
+        self.failed: list[list[Moves]] = []
+        self.depth = 0  # how many `first` a tree may have one below the other
 
     def found(self) -> Goal:
-        """A goal, or NoGoal."""
+        """A goal, or NoGoal. Trees with `first` in them are tried where the others failed."""
         tries = 0
         for groups in self._choices():
             if tries == TRIES or clock() > self.deadline:
@@ -54,9 +58,22 @@ class GoalFinder:
             goal = self._with(groups)
             if goal is not None:
                 return goal
+            self.failed.append(groups)
             tries += 1
             note(tries / TRIES)
-        raise NoGoal(f"{tries} choices of moves were tried")
+        goal = self._by_entries()
+        if goal is None:
+            raise NoGoal(f"{tries} choices of moves were tried")
+        return goal
+
+    def _by_entries(self) -> Goal | None:
+        """A goal by one of the first choices of moves, with a tree that may have `first` in it."""
+        self.depth = DEEPEST
+        for groups in self.failed[:ENTRY_TRIES]:
+            goal = self._with(groups)
+            if goal is not None or clock() > self.deadline:
+                return goal
+        return None
 
     def _out(self, t: int) -> int:
         """How many agents a move puts among wrong states, less those that it takes from them."""
@@ -98,7 +115,7 @@ class GoalFinder:
         """The goal with a tree, if one is found; what candidates for ends lack is noted."""
         end = min(self.deadline, clock() + TREE_SECONDS)
         try:
-            nodes = find_tree(self.leaf, self.tree, self.value, None, end, self.small, goal)
+            nodes = find_tree(self.leaf, self.tree, self.value, None, end, self.small, goal, self.depth)
         except WrongEnd as wrong:
             self._note_missing(goal, wrong.point)
             return None

@@ -43,6 +43,7 @@ DEEP = 200_000
 FLAW_SECONDS = 2.0  # for small crowds, at most a tenth of all
 FLAW_AGENTS = 7
 CANDIDATE_SECONDS = 10.0
+ENTRY_SECONDS = 30.0
 
 
 @dataclass
@@ -131,7 +132,7 @@ def _tree(task: Task, result: Result, deadline: float) -> None:
         result.tree = find_tree(task.leaf, task.tree, task.kind == TRUE, task.nodes, deadline, task.small)
     except WrongEnd as end:
         result.why, result.point = Why.WRONG_END, end.point
-        if _ordered(task, result):
+        if _ordered(task, result) or _by_entries(task, result, deadline):
             return
         found = by_arrays()(
             task.leaf, task.tree, tuple(end.point[: len(task.leaf.inputs)]), clock() + CANDIDATE_SECONDS
@@ -144,6 +145,23 @@ def _tree(task: Task, result: Result, deadline: float) -> None:
             result.crowds = found
     except (GaveUp, Trouble) as none:
         result.why, result.told = Why.GAVE_UP, str(none)
+        _by_entries(task, result, deadline)
+
+
+def _by_entries(task: Task, result: Result, deadline: float) -> bool:
+    """Whether a tree is found with `first` in it, which is tried only where none is found without."""
+    from .branch import GaveUp, WrongEnd
+    from .entering import DEEPEST
+    from .solver import Trouble
+    from .treefinder import find_tree
+
+    end = min(deadline, clock() + ENTRY_SECONDS)
+    try:
+        result.tree = find_tree(task.leaf, task.tree, task.kind == TRUE, task.nodes, end, task.small, depth=DEEPEST)
+    except (WrongEnd, GaveUp, Trouble):
+        return False
+    result.why, result.told, result.point, result.order = None, "", [], None
+    return True
 
 
 def _ordered(task: Task, result: Result) -> bool:

@@ -8,16 +8,16 @@ from typing import Iterator, Sequence
 import numpy as np
 
 from ..proof.facts import EQUAL, HOLDS, open_cases
-from ..protocol.predicates import Predicate
 from ..text.treereader import DraftNode
-from ..proof.bundles import Hole, Linear, Node, Open, Present, Residue, Split, Twin
+from ..proof.bundles import First, Hole, Linear, Node, Open, Present, Residue, Split, Twin
 from .branch import GaveUp, Tried, WrongEnd
+from .entering import Entering
 from .frames import EPSILON, Frame, Lemma
 from .howfar import note
 from ..proof.items import Array, Case, Cases, Item, Row, Zeros, fact_of, row_of
-from .lemmas import WORDS, Lemmas, node_of
+from .lemmas import WORDS, node_of
 from .limits import Limit
-from .trees import Grown, Opened, RestSum, Sum, ending, grown
+from .trees import Entered, Grown, Opened, RestSum, Sum, ending, grown
 
 SPLITS = 24  # fractions that are tried for a split
 DEEPEST = 3_000  # frames
@@ -30,13 +30,15 @@ class Way:
     ahead: int  # candidates for `present` whose cases are both tried
     is_plain: bool = False  # whether it keeps to the points of its own branch
     is_told: bool = False  # whether it tells how far it is
+    depth: int = 0  # how many `first` may stand one below the other
 
 
-class Prover(Lemmas):
+class Prover(Entering):
     """Finds the tree for one value of one leaf's predicate."""
 
-    def __init__(self, cases: Cases, tree: Predicate, value: bool, limit: Limit, way: Way, exact: bool) -> None:
-        super().__init__(cases, tree, value, limit, exact)
+    def __init__(self, cases: Cases, base: Case, limit: Limit, way: Way, exact: bool) -> None:
+        super().__init__(cases, base, limit, exact)
+        self.way, self.depth = way, way.depth
         self.ahead, self.is_plain = way.ahead, way.is_plain
         self._opened: list[Item] = []
         self.is_told = way.is_told
@@ -71,7 +73,24 @@ class Prover(Lemmas):
             done = self._given_cases(nodes, trail, cases)
             self._opened.pop()
             return grown(Opened(item), done, keep=True)
-        return grown(node, self._given_cases(nodes, trail, list(self.cases.of(node))), keep=True)
+        entered = self._given_entries(nodes, node, trail) if isinstance(node, First) else None
+        return grown(node, self._given_cases(nodes, trail, list(self.cases.of(node))), keep=True, entered=entered)
+
+    def _given_entries(self, nodes: Iterator[DraftNode], node: First, trail: list[Item]) -> Entered:
+        entered = self.entered(node.states)
+        below = self.below(entered, trail, self.limit)
+        for items in self.entry_cases(node.states):
+            entered.trees += below._given_cases(nodes, list(below.base), [items])
+        return entered
+
+    def below(self, entered: Entered, branch: Sequence[Item], limit: Limit) -> "Prover":
+        """A search in the entries of a set, below a branch with these facts."""
+        way = Way(self.ahead, is_plain=True, depth=self.depth - 1)
+        made = Prover(self.cases.still, entered.flow, limit, way, self.exact)
+        made.base = entered.base(branch)
+        made.stack.push(made.base[len(entered.flow) :])
+        made._opened = self._opened
+        return made
 
     def _given_cases(
         self, nodes: Iterator[DraftNode], trail: list[Item], cases: list[Case]
@@ -139,9 +158,8 @@ class Prover(Lemmas):
                 for i, items in enumerate(lemma.cases)
                 if i != lemma.main
             }
-            node = grown(
-                lemma.node, [(items, node if i == lemma.main else sides[i]) for i, items in enumerate(lemma.cases)]
-            )
+            done = [(items, node if i == lemma.main else sides[i]) for i, items in enumerate(lemma.cases)]
+            node = grown(lemma.node, done, entered=lemma.entered)
         return node
 
     # -- branching
@@ -170,6 +188,8 @@ class Prover(Lemmas):
                 return self._split()
             again, node = self._exclude(whole)
             if not again and node is None:
+                again, node = self.come_in(whole)
+            if not again and node is None:
                 raise WrongEnd(whole)
             if node is not None:
                 return node
@@ -182,7 +202,13 @@ class Prover(Lemmas):
         node = self._present(point)
         return (False, node) if node is not None else self._hard(point)
 
-    def _cased(self, node: Node) -> Grown:
+    def shown(self, items: Case) -> Grown:
+        """The tree of a case of the branch."""
+        frame = self.stack.push(items)
+        self.floor = len(self.stack.frames) - 1
+        return self._popped(frame, self._branch())
+
+    def cased(self, node: Node, entered: Entered | None = None) -> Grown:
         """A node with all its cases searched."""
         done = []
         every = list(self.cases.of(node))
@@ -191,7 +217,7 @@ class Prover(Lemmas):
             frame = self.stack.push(items)
             done.append((items, self._popped(frame, self._branch())))
         self._part *= len(every)
-        return grown(node, done)
+        return grown(node, done, entered=entered)
 
     def _present(self, point: Array) -> Grown | None:
         """Branches on a state of two that could react at this point's end; None where its end is terminal."""
@@ -249,7 +275,7 @@ class Prover(Lemmas):
                     return True, None
                 if best is None or len(live) < best[0]:
                     best = len(live), word, states
-        return (False, self._cased(node_of(best[1], best[2]))) if best else (False, None)
+        return (False, self.cased(node_of(best[1], best[2]))) if best else (False, None)
 
     def _split(self) -> Grown:
         """Where whole numbers exclude what fractions allow: splits a fraction, decides on a state, or splits a small
@@ -264,7 +290,7 @@ class Prover(Lemmas):
                 best = shut, node
         undecided = self.undecided()
         if best and (best[0] >= 2 or not undecided):
-            return self._cased(best[1])
+            return self.cased(best[1])
         if undecided:
             return self._present_one_of(undecided)
         return self._split_count(point)
@@ -290,7 +316,7 @@ class Prover(Lemmas):
             cost[a] = 1
             low, high = self.solver.point(self.stack.frames, cost), self.solver.point(self.stack.frames, -cost)
             if low is not None and high is not None and high[a] - low[a] <= 2 + EPSILON:
-                return self._cased(Split(((a, 1),), -floor(low[a] - EPSILON) + 1))
+                return self.cased(Split(((a, 1),), -floor(low[a] - EPSILON) + 1))
         raise GaveUp(
             "no whole numbers were found that meet the facts of a branch, and no split that shows there are none"
         )

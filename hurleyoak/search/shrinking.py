@@ -14,7 +14,7 @@ from ..proof.items import Array, Case, Item, Zeros
 from .limits import Limit
 from .residues import closes
 from .solver import Trouble
-from .trees import Grown, Opened, RestSum, Sum, ending, grown
+from .trees import Grown, Opened, RestSum, Sum, ending
 
 USERS = 8  # a case whose facts more leaves rest on is left alone
 
@@ -41,6 +41,8 @@ class _Survey:
                 self.leaves.append((node, path))
             if isinstance(node.kind, Opened) and node.kind.item in home:
                 self.fixed.add(home[node.kind.item])
+            if node.entered is not None:
+                self.fixed.update(home[item] for item in node.entered.used if item in home)
             for items, sub in node.cases:
                 g = len(self.cases)
                 self.cases.append(items)
@@ -87,7 +89,7 @@ def _closed_anew(node: Grown, branch: Branch, points: Array, cases: Sequence[Ite
 def _rebuilt(node: Grown, fresh: dict[Grown, Grown]) -> Grown:
     if not node.cases:
         return fresh.get(node, node)
-    return grown(node.kind, [(items, _rebuilt(sub, fresh)) for items, sub in node.cases])
+    return node.with_cases([(items, _rebuilt(sub, fresh)) for items, sub in node.cases])
 
 
 def _round(branch: Branch, root: Grown, limit: Limit) -> dict[Grown, Grown]:

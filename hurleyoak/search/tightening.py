@@ -48,7 +48,7 @@ class _Tightener:
             self.branch.stack.frames.pop()
             done.append((items, less))
             least = max(least, low)
-        node = grown(node.kind, done)
+        node = node.with_cases(done)
         if any_opened(node):
             return node, least
         while least < min(node.size, MOST + 1) and self.left > 0:

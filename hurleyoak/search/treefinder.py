@@ -1,6 +1,7 @@
 """The tree for one value: searched in several ways where there is time, and made smaller."""
 from __future__ import annotations
 
+from dataclasses import dataclass, replace
 from typing import Sequence
 
 from ..protocol.nets import Leaf
@@ -8,7 +9,7 @@ from ..protocol.predicates import Predicate
 from ..text.treereader import DraftNode
 from ..proof.bundles import Goal, Hole, Tree
 from .branch import FLOATS, GaveUp, WrongEnd, greatest_number
-from ..proof.items import Cases
+from ..proof.items import Case, Cases
 from .limits import Limit
 from .search import Prover, Way
 from .shrinking import shrunk
@@ -27,18 +28,27 @@ FAR = 2  # a tree that is so many times larger than another is left as it is
 Found = tuple[Prover, Grown]
 
 
-def _searched(
-    cases: Cases, tree: Predicate, value: bool, nodes: Sequence[DraftNode], limit: Limit, way: Way, exact: bool
-) -> Found:
-    """One search; in exact numbers where floats won't do."""
-    made = Prover(cases, tree, value, limit, way, exact)
-    try:
-        return made, made.proved(nodes)
-    except Trouble:
-        if exact:
-            raise
-        made = Prover(cases, tree, value, limit, way, True)
-        return made, made.proved(nodes)
+@dataclass(frozen=True)
+class Sought:
+    """What a tree is looked for: a branch with these facts; in exact numbers where floats won't do, and with `first` where
+    it may stand."""
+
+    cases: Cases
+    base: Case
+    exact: bool
+    depth: int
+
+    def searched(self, nodes: Sequence[DraftNode], limit: Limit, way: Way) -> Found:
+        """One search."""
+        way = replace(way, depth=self.depth)
+        made = Prover(self.cases, self.base, limit, way, self.exact)
+        try:
+            return made, made.proved(nodes)
+        except Trouble:
+            if self.exact:
+                raise
+            made = Prover(self.cases, self.base, limit, way, True)
+            return made, made.proved(nodes)
 
 
 def _less(found: Found, limit: Limit, exact: bool) -> Found:
@@ -47,17 +57,16 @@ def _less(found: Found, limit: Limit, exact: bool) -> Found:
     return (made, root) if exact else (made, shrunk(made, root, limit))
 
 
-def _smallest(
-    cases: Cases, tree: Predicate, value: bool, first: Found, limit: Limit, more: Limit, exact: bool
-) -> Found:
+def _smallest(sought: Sought, first: Found, limit: Limit, more: Limit) -> Found:
     """The smallest of the trees that are found in all ways, made smaller in its parts; a way is gone while there is
     `more` time."""
+    exact = sought.exact
     best = _less(first, limit, exact)
     for way in WAYS[1:]:
         if best[1].size <= ENOUGH or more.is_over():
             break
         try:
-            found = _searched(cases, tree, value, [Hole()], limit, way, exact)
+            found = sought.searched([Hole()], limit, way)
         except (WrongEnd, GaveUp, Trouble):
             continue
         if found[1].size > FAR * best[1].size:
@@ -80,9 +89,10 @@ def find_tree(
     deadline: float,
     small: float,
     goal: Goal | None = None,
+    depth: int = 0,
 ) -> Tree:
     """The nodes for a value of the predicate, those that are given kept; or WrongEnd, GaveUp or Trouble. With a goal
-    they are for its layers and sets.
+    they are for its layers and sets. So many `first` as `depth` may stand one below the other.
 
     Where all of the tree is to be found, up to `small` seconds of this process's work then make it smaller.
     """
@@ -90,8 +100,8 @@ def find_tree(
     more = limit.after(small * 3 / 4)
     cases = Cases(leaf, goal)
     given: Sequence[DraftNode] = nodes if nodes is not None else [Hole()]
-    exact = greatest_number(tree) > FLOATS
-    found = _searched(cases, tree, value, given, limit, WAYS[0], exact)
+    sought = Sought(cases, cases.base(tree, value), greatest_number(tree) > FLOATS, depth)
+    found = sought.searched(given, limit, WAYS[0])
     if len(given) == 1 and isinstance(given[0], Hole) and small > 0:
-        found = _smallest(cases, tree, value, found, limit.after(small), more, exact)
+        found = _smallest(sought, found, limit.after(small), more)
     return written(found[0].base, found[1])

@@ -5,7 +5,7 @@ from dataclasses import dataclass, field
 from typing import Iterable, Sequence, Union
 
 from ..proof.bundles import Linear, Node, Open, Residue, Tree
-from ..proof.items import Case, Item, Ref
+from ..proof.items import Case, Cases, Item, Ref
 
 Terms = list[tuple[Ref, int]]
 
@@ -37,6 +37,29 @@ Kind = Union[Node, Opened, Sum, RestSum]
 
 
 @dataclass(eq=False)
+class Entered:
+    """The trees of the entries of a `first`, each behind that its move is possible. They rest on the flow facts, on
+    those of the input in the node's branch, and on those that nobody was in the set."""
+
+    cases: Cases
+    flow: Case
+    nobody: Case
+    trees: list[tuple[Case, "Grown"]] = field(default_factory=list)
+    origin: dict[Item, Item] = field(default_factory=dict)
+
+    def base(self, branch: Iterable[Item]) -> Case:
+        """The facts of all entries below a branch with these facts."""
+        known = [(self.cases.about_inputs(item), item) for item in branch]
+        self.origin.update((part, item) for part, item in known if part is not None)
+        return [*self.flow, *(part for part, _ in known if part is not None), *self.nobody]
+
+    @property
+    def used(self) -> frozenset[Item]:
+        """The facts of the node's branch on which they rest."""
+        return frozenset(self.origin[item] for _, sub in self.trees for item in sub.used if item in self.origin)
+
+
+@dataclass(eq=False)
 class Grown:
     """A node with the trees of its cases. `used` are the facts from outside on which it rests."""
 
@@ -44,6 +67,11 @@ class Grown:
     cases: list[tuple[Case, "Grown"]] = field(default_factory=list)
     used: frozenset[Item] = frozenset()
     size: int = 1
+    entered: Entered | None = None
+
+    def with_cases(self, cases: list[tuple[Case, "Grown"]]) -> "Grown":
+        """The same node with other trees of its cases."""
+        return grown(self.kind, cases, entered=self.entered)
 
 
 def ending(kind: Sum | RestSum) -> Grown:
@@ -54,7 +82,9 @@ def ending(kind: Sum | RestSum) -> Grown:
     return Grown(kind, used=frozenset(used))
 
 
-def grown(kind: Kind, cases: list[tuple[Case, Grown]], keep: bool = False) -> Grown:
+def grown(
+    kind: Kind, cases: list[tuple[Case, Grown]], keep: bool = False, entered: Entered | None = None
+) -> Grown:
     """The node; or, unless it is to be kept, the smallest tree of a case that does without the case's facts."""
     free = [sub for items, sub in cases if sub.used.isdisjoint(items)]
     if free and not keep:
@@ -62,7 +92,11 @@ def grown(kind: Kind, cases: list[tuple[Case, Grown]], keep: bool = False) -> Gr
     used: set[Item] = {kind.item} if isinstance(kind, Opened) else set()
     for items, sub in cases:
         used |= sub.used.difference(items)
-    return Grown(kind, cases, frozenset(used), 1 + sum(sub.size for _, sub in cases))
+    size = 1 + sum(sub.size for _, sub in cases)
+    if entered is not None:
+        used |= entered.used
+        size += sum(sub.size for _, sub in entered.trees)
+    return Grown(kind, cases, frozenset(used), size, entered)
 
 
 def _placed(terms: Iterable[tuple[Ref, int]], starts: dict[Item, int]) -> tuple[tuple[int, int], ...]:
@@ -94,5 +128,9 @@ def written(base: Sequence[Item], root: Grown) -> Tree:
             out.append(Open(starts[kind.item]))
         else:
             out.append(kind)
+        if node.entered is not None:
+            known = node.entered.base([item for item, _ in trail])
+            for own, sub in node.entered.trees:
+                out += written([*known, *own], sub)
         todo += [(len(trail), own, sub) for own, sub in reversed(node.cases)]
     return tuple(out)
