@@ -45,7 +45,7 @@ def _ends(bundle: Bundle, at: int, value: bool) -> list[int]:
     many = [0] * len(nodes)
     for visit in visits(names, read_predicate(part.pred, bundle.net.names), value, nodes):
         if visit.node is not None and visit.number < len(nodes) and visit.why != "rest":
-            many[visit.number] = len(names.cases(visit.node, visit.branch.facts, visit.branch.names))
+            many[visit.number] = len(visit.branch.cases(visit.node))
     ends = [0] * len(nodes)
     for n in reversed(range(len(nodes))):
         end = n + 1

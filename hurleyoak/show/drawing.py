@@ -70,7 +70,7 @@ def _said(node: ToldNode, is_first: bool) -> list[str]:
         lines.append("# this part is to be found: `pop find`")
     elif node.closes:
         lines.append(f"# sum: {node.sum}")
-    return lines
+    return lines + [f"# {told}" for told in node.about]
 
 
 def tree_lines(nodes: Sequence[ToldNode], everything: bool) -> Iterator[str]:

@@ -8,7 +8,6 @@ from dataclasses import dataclass, field, replace
 
 from ..proof.branches import Visit, visits
 from ..proof.checking import LayerFault, layer_fault, verdict
-from ..proof.facts import Space
 from ..text.loaded import Loaded, LoadedBundle, predicates_differ
 from ..proof.names import Names
 from ..protocol.nets import Leaf
@@ -17,13 +16,13 @@ from ..protocol.predicates import Predicate, canonical_text
 from ..text.proofreader import GoalDraft, ProofDraft
 from ..text.treereader import Note
 from ..protocol.combining import combined_predicate
-from ..proof.bundles import Bundle, Goal, Hole, Layer, LeafGoals, LeafProof, Linear, Node, Part, Residue
+from ..proof.bundles import Bundle, First, Goal, Hole, Layer, LeafGoals, LeafProof, Linear, Node, Part, Residue
 from ..protocol.naming import state_text
 from ..text.writer import leaf_names, node_lines
 from .goals import ToldGoal, told_goal
 from .layers import ToldLayer as ToldLayer
 from .layers import told_layer
-from .reasons import closes_told, gloss, layer_lacks, node_lacks, sum_told
+from .reasons import closes_told, entries_told, gloss, layer_lacks, node_lacks, sum_told
 
 ROOM = 100
 
@@ -41,7 +40,7 @@ class ToldFact:
 @dataclass
 class ToldNode:
     """A node as it is shown; `text` are its lines in the `.pop` file, `sum` and `closes` are for `lin` and `residue`,
-    whose `terms` are the facts with their multipliers."""
+    whose `terms` are the facts with their multipliers. `about` says of `first` which moves enter."""
 
     visit: Visit
     number: int
@@ -50,6 +49,7 @@ class ToldNode:
     terms: list[tuple[int, ToldFact]] = field(default_factory=list)
     sum: str = ""
     closes: str = ""
+    about: list[str] = field(default_factory=list)
     refused: str = ""
     lacks: list[str] = field(default_factory=list)
     notes: list[str] = field(default_factory=list)
@@ -130,7 +130,9 @@ def _node(names: Names, visit: Visit, notes: list[Note], holes: set[int]) -> Tol
         ]
     if visit.why:
         told.refused = visit.why
-        told.lacks = node_lacks(names, Space(names.leaf, names.goal), branch.facts, branch.names, node, visit.why)
+        told.lacks = node_lacks(names, branch.space, branch.facts, branch.names, node, visit.why)
+    elif isinstance(node, First):
+        told.about = entries_told(names, branch.space, node)
     elif isinstance(node, (Linear, Residue)):
         told.sum = sum_told(names, branch.facts, node)
         told.closes = closes_told(names, branch.facts, node)

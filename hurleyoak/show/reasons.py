@@ -7,7 +7,8 @@ from ..proof.checking import LayerFault, agents_before, denied, total
 from ..proof.facts import AT_LEAST, DIVIDES, EQUAL, HOLDS, NOT_DIVIDES, Fact, Space
 from ..proof.names import Names, named
 from ..protocol.nets import Leaf
-from ..proof.bundles import Layer, Linear, Node, Open, Present, Residue, Siphon, Split, Trap, Twin
+from ..proof.bundles import First, Layer, Linear, Node, Open, Present, Residue, Split, Twin
+from ..proof.ends import STILL
 
 SHOWN = 6
 
@@ -22,6 +23,7 @@ GLOSSES = {
     "here": "an agent is in the state",
     "one": "just one is",
     "single": "two of them would meet",
+    "two": "two agents are in the state",
     "leaves": "a move left the set",
     "never": "the move was not taken",
     "none": "no agent started so",
@@ -141,6 +143,8 @@ def node_lacks(
         return _residue_lacks(names, facts, fact_names, node)
     if why == "bad-index":
         return _index_lacks(space, facts, node)
+    if why == "no-twin" and isinstance(node, Twin) and space.goal is STILL:
+        return ["before a set is entered every move may be possible still, so two agents may be in any state"]
     if why == "no-twin" and isinstance(node, Twin):
         return [
             f"no move that changes something takes {names.state(node.state)} twice, so two agents may be in it at"
@@ -152,6 +156,24 @@ def node_lacks(
     if why == "too-deep":
         return ["a node has at most 4,095 nodes above it"]
     return ["a case would get more than 65,536 facts"]
+
+
+def entries_told(names: Names, space: Space, node: First) -> list[str]:
+    """What `first` says of the moves that enter its set, in sentences."""
+    text = names.braces(node.states)
+    moves = space.entering(node.states)
+    if not moves:
+        return [f"no move brings an agent into {text} from outside"]
+    lines = [f"nobody can come into {text} first: each move that brings somebody in needs agents that aren't there"]
+    lines += [f"`{names.move(t)}` needs {_needed(names, t)}, with nobody in {text} before" for t in moves[:SHOWN]]
+    lines += [f"and so on for {len(moves) - SHOWN} more moves"] if len(moves) > SHOWN else []
+    return [*lines, "the cases of these moves speak of the crowd before, and count their facts anew"]
+
+
+def _needed(names: Names, t: int) -> str:
+    """The two agents that meet in a move."""
+    p, q = map(names.state, names.leaf.moves[t][:2])
+    return f"two agents in {p}" if p == q else f"an agent in {p} and one in {q}"
 
 
 def layer_lacks(names: Names, leaf: Leaf, layers: Sequence[Layer], fault: LayerFault) -> list[str]:

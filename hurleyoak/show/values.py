@@ -43,6 +43,7 @@ def _node(node: ToldNode, line: int) -> dict[str, Any]:
         "terms": [[k, _fact(f)] for k, f in node.terms],
         "sum": node.sum,
         "closes": node.closes,
+        "about": node.about,
         "refused": node.refused,
         "lacks": [*node.notes, *node.lacks],
         "open": node.is_open,

@@ -83,7 +83,7 @@ RULES = [
         rf"{TREE}/\d+",
         'a node is a list: its word, and the items that the word asks for, as ["present",0] or ["lin",[[0,1]]]',
     ),
-    (rf"{TREE}/\d+/0", "a node's word is lin, residue, split, present, twin, trap, siphon or open"),
+    (rf"{TREE}/\d+/0", "a node's word is lin, residue, split, present, twin, trap, siphon, first or open"),
     (
         rf"{TREE}/\d+/\d+",
         (

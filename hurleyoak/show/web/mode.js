@@ -1,6 +1,6 @@
 // The words of a `.pop` file, token by token: for the editor's colours, and for a listing without an editor.
 const HEADS = /^(?:format|family|for|variables|predicate|combine|leaf|states|inputs|helpers|yes|no|computes|layers|layer|when|keeps)(?![A-Za-z0-9_.:])/;
-const NODES = /^(?:open|present|twin|trap|siphon|split|lin|residue|missing|rest)(?![A-Za-z0-9_.])/;
+const NODES = /^(?:open|present|twin|trap|siphon|first|split|lin|residue|missing|rest)(?![A-Za-z0-9_.])/;
 const NAME = /^[A-Za-z0-9_'.^~@$%](?:[A-Za-z0-9_'.^~@$%]|-(?!>))*/;
 
 export const popMode = () => ({
@@ -21,7 +21,7 @@ export const popMode = () => ({
         state.head = stream.current();
         return "keyword";
       }
-      if (stream.match(/^[A-Za-z]+(?=:)/)) return "attribute";
+      if (stream.match(/^[A-Za-z]+(?=:)/) || stream.match(/^by(?= \[)/)) return "attribute";
     }
     if (state.head === "when" && stream.match(/^(?:true|false)\b/)) return "atom";
     if (stream.match("->")) return "operator";

@@ -24,6 +24,7 @@ const KEYWORDS = {
   twin: "two of this state would meet, so at most one is left",
   trap: "agents in this set stay in it, unless a move leaves it",
   siphon: "this set stays empty, unless a move enters it or an agent starts in it",
+  first: "cases: a move brings the first agent into this set, one started there, or none ever was in it",
   split: "three cases: is this sum above 0, is it 0, or is it below?",
   lin: "closes the branch: this sum of facts would be below 0, and it is at least 0",
   residue: "closes the branch: this sum cannot be divided so",
@@ -36,6 +37,8 @@ const FACTS = {
   here: "an agent is in this state",
   leaves: "agents that leave a set",
   never: "a move that is never made",
+  starts: "an agent starts in a set",
+  two: "two agents are in this state",
 };
 const WORD = /[A-Za-z0-9_'.^~@$%]+/g;
 
@@ -63,7 +66,7 @@ function state(word, tally) {
 
 // What a word of a line means; empty where it means nothing that is known.
 export function meaningOf(word, line, tally = null) {
-  const isHead = new RegExp(`^[\\s│├└─]*(?:[a-z]+: )?${word.replace(/[^A-Za-z0-9_]/g, "\\$&")}(?![A-Za-z0-9_])`).test(line);
+  const isHead = new RegExp(`^[\\s│├└─]*(?:[a-z]+(?: \\[[^\\]]*\\])?: )?${word.replace(/[^A-Za-z0-9_]/g, "\\$&")}(?![A-Za-z0-9_])`).test(line);
   if (isHead && Object.hasOwn(KEYWORDS, word)) return `${word}: ${KEYWORDS[word]}`;
   const found = state(word, tally);
   if (found.length) return found.join("\n");

@@ -13,6 +13,7 @@ const KIND_TOLD = {
   twin: "two of this state would meet, so at most one is left",
   trap: "agents in this set stay in it, unless a move leaves it",
   siphon: "this set stays empty, unless a move enters it or an agent starts in it",
+  first: "nobody can come into this set first: a case for each move that brings somebody in",
   split: "is this sum above 0, is it 0, or is it below?",
   lin: "closes the branch: this sum of facts would be below 0, and it is at least 0",
   residue: "closes the branch: this sum cannot be divided so",
@@ -54,7 +55,8 @@ function said(node, isFirst) {
   if (node.refused) out.push(h("p", { class: "refused" }, h("b", {}, isFirst ? "refused: " : "also: "), node.refused));
   for (const told of node.lacks || []) out.push(h("p", { class: "refused" }, told));
   if (node.open) out.push(h("p", { class: "small" }, "this part is to be found"));
-  else if (node.closes) out.push(h("p", { class: "closes" }, h("code", {}, node.sum), h("span", { class: "small" }, ` ${node.closes}`)));
+  for (const told of node.about || []) out.push(h("p", { class: "small" }, told));
+  if (!node.open && node.closes) out.push(h("p", { class: "closes" }, h("code", {}, node.sum), h("span", { class: "small" }, ` ${node.closes}`)));
   return out;
 }
 
