@@ -23,7 +23,7 @@ from .solver import Trouble
 from .trees import Entered, Grown
 
 DEEPEST = 2  # how many `first` stand one below the other at most
-SECONDS = 4.0  # for the entries of one set
+SECONDS = 3.0  # for the entries of one set
 SMALLER = 0.5  # for making their trees smaller
 SETS = 40  # that are tried for one point
 

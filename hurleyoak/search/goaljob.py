@@ -10,12 +10,11 @@ from ..protocol.predicates import Predicate
 from ..text.proofreader import GoalDraft
 from ..text.treereader import DraftNode
 from .branch import GaveUp, WrongEnd
-from .entering import DEEPEST
 from .goals import NoGoal as NoGoal
 from .goals import find_goal as find_goal
 from .layerjob import NoLayers, fill_layers
 from .solver import Trouble
-from .treefinder import find_tree
+from .treefinder import find_deeper, find_tree
 
 
 def _nodes(
@@ -31,7 +30,10 @@ def _nodes(
     try:
         return find_tree(leaf, tree, value, nodes, deadline, small, goal)
     except (WrongEnd, GaveUp, Trouble):
-        return find_tree(leaf, tree, value, nodes, deadline, small, goal, DEEPEST)
+        found = find_deeper(leaf, tree, value, nodes, deadline, small, goal)
+        if found is None:
+            raise
+        return found
 
 
 def fill_goal(

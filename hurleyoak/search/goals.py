@@ -12,7 +12,6 @@ from ..proof.staying import stay_of
 from ..protocol.nets import Leaf
 from ..protocol.predicates import Predicate
 from .branch import GaveUp, WrongEnd
-from .entering import DEEPEST
 from .howfar import note
 from .keeping import kept_sets
 from .limits import clock
@@ -23,6 +22,7 @@ from .waking import Moves
 
 TRIES = 60
 ENTRY_TRIES = 12
+ENTRY_SECONDS = 12.0
 TREE_SECONDS = 15.0
 MANY = 150  # moves above which none are inserted one by one
 SEED = 1
@@ -68,10 +68,13 @@ class GoalFinder:
 
     def _by_entries(self) -> Goal | None:
         """A goal by one of the first choices of moves, with a tree that may have `first` in it."""
-        self.depth = DEEPEST
+        self.deadline = min(self.deadline, clock() + ENTRY_SECONDS)
+        self.depth = 1
         for groups in self.failed[:ENTRY_TRIES]:
+            if clock() > self.deadline:
+                break
             goal = self._with(groups)
-            if goal is not None or clock() > self.deadline:
+            if goal is not None:
                 return goal
         return None
 

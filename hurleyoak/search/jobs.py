@@ -43,7 +43,7 @@ DEEP = 200_000
 FLAW_SECONDS = 2.0  # for small crowds, at most a tenth of all
 FLAW_AGENTS = 7
 CANDIDATE_SECONDS = 10.0
-ENTRY_SECONDS = 30.0
+ENTRY_SECONDS = 15.0
 
 
 @dataclass
@@ -150,18 +150,13 @@ def _tree(task: Task, result: Result, deadline: float) -> None:
 
 def _by_entries(task: Task, result: Result, deadline: float) -> bool:
     """Whether a tree is found with `first` in it, which is tried only where none is found without."""
-    from .branch import GaveUp, WrongEnd
-    from .entering import DEEPEST
-    from .solver import Trouble
-    from .treefinder import find_tree
+    from .treefinder import find_deeper
 
     end = min(deadline, clock() + ENTRY_SECONDS)
-    try:
-        result.tree = find_tree(task.leaf, task.tree, task.kind == TRUE, task.nodes, end, task.small, depth=DEEPEST)
-    except (WrongEnd, GaveUp, Trouble):
-        return False
-    result.why, result.told, result.point, result.order = None, "", [], None
-    return True
+    found = find_deeper(task.leaf, task.tree, task.kind == TRUE, task.nodes, end, task.small)
+    if found is not None:
+        result.tree, result.why, result.told, result.point, result.order = found, None, "", [], None
+    return found is not None
 
 
 def _ordered(task: Task, result: Result) -> bool:

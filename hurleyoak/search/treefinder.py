@@ -10,7 +10,8 @@ from ..text.treereader import DraftNode
 from ..proof.bundles import Goal, Hole, Tree
 from .branch import FLOATS, GaveUp, WrongEnd, greatest_number
 from ..proof.items import Case, Cases
-from .limits import Limit
+from .entering import DEEPEST
+from .limits import Limit, clock
 from .search import Prover, Way
 from .shrinking import shrunk
 from .solver import Trouble
@@ -105,3 +106,24 @@ def find_tree(
     if len(given) == 1 and isinstance(given[0], Hole) and small > 0:
         found = _smallest(sought, found, limit.after(small), more)
     return written(found[0].base, found[1])
+
+
+def find_deeper(
+    leaf: Leaf,
+    tree: Predicate,
+    value: bool,
+    nodes: Sequence[DraftNode] | None,
+    deadline: float,
+    small: float,
+    goal: Goal | None = None,
+    deepest: int = DEEPEST,
+) -> Tree | None:
+    """The same with `first` in it, where none was found without: one below the other as few as do."""
+    for depth in range(1, deepest + 1):
+        if clock() >= deadline:
+            break
+        try:
+            return find_tree(leaf, tree, value, nodes, deadline, small, goal, depth)
+        except (WrongEnd, GaveUp, Trouble):
+            continue
+    return None
