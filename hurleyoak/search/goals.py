@@ -21,8 +21,8 @@ from .treefinder import find_tree
 from .waking import Moves
 
 TRIES = 60
-ENTRY_TRIES = 12
-ENTRY_SECONDS = 12.0
+EARLY, EARLY_SECONDS = 6, 3.0  # choices of moves behind which trees with `first` are tried for them
+ENTRY_SECONDS = 10.0  # for such trees at the end
 TREE_SECONDS = 15.0
 MANY = 150  # moves above which none are inserted one by one
 SEED = 1
@@ -36,14 +36,16 @@ class GoalFinder:
     """Searches a goal: nobody is ever wrong; the greatest layers; then layers of moves that are chosen in several
     ways."""
 
-    def __init__(self, leaf: Leaf, tree: Predicate, value: bool, deadline: float, small: float) -> None:
+    def __init__(
+        self, leaf: Leaf, tree: Predicate, value: bool, deadline: float, small: float, depth: int = 0
+    ) -> None:
         self.leaf, self.tree, self.value, self.deadline, self.small = leaf, tree, value, deadline, small
         self.right = frozenset(states_with(leaf, value))
         self.rng = random.Random(SEED)
         self.missing: dict[int, int] = {}  # how often a move was possible at a candidate for a wrong end
         self.seen: set[Moves] = set()
         self.failed: list[list[Moves]] = []
-        self.depth = 0  # how many `first` a tree may have one below the other
+        self.depth = depth  # how many `first` a tree may have one below the other
 
     def found(self) -> Goal:
         """A goal, or NoGoal. Trees with `first` in them are tried where the others failed."""
@@ -61,22 +63,25 @@ class GoalFinder:
             self.failed.append(groups)
             tries += 1
             note(tries / TRIES)
-        goal = self._by_entries()
+            goal = self._by_entries(EARLY_SECONDS) if tries == EARLY else None
+            if goal is not None:
+                return goal
+        goal = self._by_entries(ENTRY_SECONDS)
         if goal is None:
             raise NoGoal(f"{tries} choices of moves were tried")
         return goal
 
-    def _by_entries(self) -> Goal | None:
-        """A goal by one of the first choices of moves, with a tree that may have `first` in it."""
-        self.deadline = min(self.deadline, clock() + ENTRY_SECONDS)
-        self.depth = 1
-        for groups in self.failed[:ENTRY_TRIES]:
-            if clock() > self.deadline:
-                break
-            goal = self._with(groups)
-            if goal is not None:
-                return goal
-        return None
+    def _by_entries(self, seconds: float) -> Goal | None:
+        """A goal by a choice of moves that failed, with a tree that has `first` in it."""
+        if self.depth:
+            return None
+        deadline, self.depth = self.deadline, 1
+        self.deadline = min(deadline, clock() + seconds)
+        goal = None
+        while goal is None and self.failed and clock() < self.deadline:
+            goal = self._with(self.failed.pop(0))
+        self.deadline, self.depth = deadline, 0
+        return goal
 
     def _out(self, t: int) -> int:
         """How many agents a move puts among wrong states, less those that it takes from them."""
@@ -149,6 +154,6 @@ def _used_facts(nodes: Tree) -> set[int]:
     return {fact for node in nodes if isinstance(node, (Linear, Residue)) for fact, _ in node.terms}
 
 
-def find_goal(leaf: Leaf, tree: Predicate, value: bool, deadline: float, small: float) -> Goal:
-    """A goal for a value, or NoGoal."""
-    return GoalFinder(leaf, tree, value, deadline, small).found()
+def find_goal(leaf: Leaf, tree: Predicate, value: bool, deadline: float, small: float, depth: int = 0) -> Goal:
+    """A goal for a value, or NoGoal. With a depth its tree has `first` from the beginning, as no tree does without."""
+    return GoalFinder(leaf, tree, value, deadline, small, depth).found()

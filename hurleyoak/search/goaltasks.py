@@ -3,6 +3,7 @@ from __future__ import annotations
 
 from typing import Callable, Iterator, NamedTuple, Sequence
 
+from ..proof.bundles import First
 from ..text.proofreader import ProofDraft
 from .flaws import Flaw
 from .jobs import FALSE, GOAL_FALSE, GOAL_TRUE, LAYERS, TRUE, WHOLE, Result, Task, TaskKind, Why
@@ -21,12 +22,14 @@ def plain_tasks(task: Task, draft: ProofDraft) -> Iterator[Task]:
         yield task.like(kind, nodes=draft.tree(kind == TRUE))
 
 
-def goal_tasks(task: Task, draft: ProofDraft) -> Iterator[Task]:
-    """The goals of a leaf."""
-    for kind in (GOAL_TRUE, GOAL_FALSE):
+def goal_tasks(task: Task, draft: ProofDraft, done: Done | None = None) -> Iterator[Task]:
+    """The goals of a leaf. A tree for a goal needs `first` where the one for all moves does."""
+    for kind, whole in ((GOAL_TRUE, TRUE), (GOAL_FALSE, FALSE)):
         value = kind == GOAL_TRUE
         goal = draft.goal(value)
-        yield task.like(kind, goal=goal, nodes=draft.tree(value) if goal else None)
+        known = (done or {}).get((whole, task.at))
+        depth = int(known is not None and any(isinstance(node, First) for node in known.tree))
+        yield task.like(kind, goal=goal, nodes=draft.tree(value) if goal else None, depth=depth)
 
 
 def leaf_tasks(task: Task, draft: ProofDraft) -> Iterator[Task]:
@@ -64,7 +67,7 @@ def look_for_goals(
     restless |= {at for kind, at in done if kind in KINDS and done[kind, at].why}
     if any(drafts[at].is_given and drafts[at].goals is None for at in restless):
         return Looked()  # (what is written of layers is kept)
-    left = [one for task in tasks if task.at in restless for one in goal_tasks(task, drafts[task.at])]
+    left = [one for task in tasks if task.at in restless for one in goal_tasks(task, drafts[task.at], done)]
     for result in run([one for one in left if _is_due(one, done)]):
         done[result.kind, result.at] = result
         if result.why:

@@ -61,6 +61,7 @@ class Task:
     goal: GoalDraft | None = None
     net: Net | None = None
     whole: Predicate | None = None
+    depth: int = 0  # of `first` in a goal's tree, where the tree for all moves needs some
 
     def like(self, kind: TaskKind, **parts: Any) -> "Task":
         """A task of the same leaf with what is given of its part."""
@@ -191,7 +192,7 @@ def _goal(task: Task, result: Result, deadline: float) -> None:
     value = task.kind == GOAL_TRUE
     try:
         if task.goal is None or task.goal.layers is None:
-            result.goal = find_goal(task.leaf, task.tree, value, deadline, task.small)
+            result.goal = find_goal(task.leaf, task.tree, value, deadline, task.small, task.depth)
         else:
             result.goal = fill_goal(task.leaf, task.tree, value, task.goal, task.nodes, deadline, task.small)
     except NoGoal as none:
