@@ -17,6 +17,7 @@ from .making import Case, product
 
 ANGLUIN = "Angluin and others 2006"
 FLOCKS = "after Blondin, Esparza and Jaax 2018"
+FLOCKS_OURS = "ours, over Blondin, Esparza and Jaax 2018"
 SECONDS, SMALL = 60.0, 8.0
 WIDTH = 110
 
@@ -51,6 +52,19 @@ GALLERY: list[tuple[str, Case, str, str]] = [
     ("counter", own.counter(3), "A helper counts to 3, and then tells all", "ours"),
     ("either", own.either(), "Three of x or two of y, in one leaf", "ours"),
     ("equal", own.same(True), "Agents of x and y cancel out, and who is left over says no", "ours"),
+    (
+        "flock-that-gives-back",
+        own.giving_back(p.log_flock(2), "4", "0", "2"),
+        "A flock whose 4 makes empty agents 2 first. Only `first` says why: before there is a 4, four agents were put"
+        " together, and what a 4 makes comes later",
+        FLOCKS_OURS,
+    ),
+    (
+        "flock-of-16-that-gives-back",
+        own.giving_back(p.log_flock(4), "16", "0", "8"),
+        "A flock of 16 whose 16 makes empty agents 8 first, so that one 16 looks as if it were made of two",
+        FLOCKS_OURS,
+    ),
     ("flock-with-rest", p.flock(4, rest=True), "A flock whose agents keep what is over 4", ANGLUIN),
     ("found-out", own.exactly_one(), "One agent of x alone: two are found out, and tell all", "ours"),
     (
@@ -81,6 +95,12 @@ GALLERY: list[tuple[str, Case, str, str]] = [
     ),
     ("recall", own.broadcast(), "A message that holds unless somebody recalls it", "ours"),
     ("tower", p.tower(5), "Of two agents on one floor one goes up", FLOCKS),
+    (
+        "tower-that-gives-back",
+        own.giving_back(p.tower(4), "4", "0", "3"),
+        "A tower whose top floor takes those on the ground to floor 3 first, where two would make the top",
+        FLOCKS_OURS,
+    ),
     ("twice", own.twice(), "Each y stands for two debts, which the x pay", "ours"),
     ("two-rumours", own.two_rumours(), "Who has heard two rumours tells all", ANGLUIN),
     ("unequal", own.same(False), "Agents of x and y cancel out, and who is left over says yes", "ours"),

@@ -1,6 +1,8 @@
 """Protocols of our own, each as a net with its predicate."""
 from __future__ import annotations
 
+from dataclasses import replace
+
 from .making import Case, NamedMove, converts, one
 from .protocols import flock, majority
 
@@ -173,4 +175,35 @@ def alarm(k: int) -> Case:
         [*moves, *converts("R", leaf.states)],
         ["1", "0", "R"],
         [leaf.states[k]],
+    )
+
+
+def giving_back(case: Case, top: str, met: str, made: str) -> Case:
+    """A protocol whose agent at the top makes one that it meets another first, in the place of converting it at
+    once."""
+    leaf = case.net.leaves[0]
+    at = {name: q for q, name in enumerate(leaf.states)}
+    pair_met = {at[top], at[met]}
+    moves = tuple(
+        (m[0], m[1], at[top], at[made]) if set(m[:2]) == pair_met and m[0] != m[1] else m for m in leaf.moves
+    )
+    name = f"{case.name}: {top} + {met} -> {top} + {made}"
+    net = replace(case.net, leaves=(replace(leaf, moves=moves),))
+    return replace(case, family=f"{case.family} that gives back", name=name, net=net)
+
+
+def restless_flock() -> Case:
+    """Agents add up to 4; who has 4 goes on in two looks, and gives 2 to empty agents."""
+    moves = [("1", "1", "2", "0"), ("2", "2", "4", "0"), ("4", "4", "4", "F"), ("4", "F", "4", "4"), ("F", "F", "4", "4")]
+    for look, other in (("4", "F"), ("F", "4")):
+        moves += [(look, "0", look, "2"), (look, "1", look, other), (look, "2", look, other)]
+    return one(
+        "flock that gives back",
+        "x >= 4 in two looks",
+        "x >= 4",
+        "x y",
+        ["0", "1", "2", "4", "F"],
+        moves,
+        ["1", "0"],
+        ["4", "F"],
     )

@@ -86,13 +86,13 @@ class Entering(Lemmas):
         return level
 
     def _sets_entered(self, point: Array) -> Iterator[States]:
-        """Sets that the point enters: single states of its end, first those with a wrong output; all of these; single
-        states that its moves put; two of the wrong ones."""
+        """Sets that the point enters: all states with a wrong output; single states of its end, first such ones; single
+        states that its moves name."""
         crowd, wrong = self.sets.crowd(point), self._wrong()
         here = [int(q) for q in np.nonzero(crowd > EPSILON)[0]]
         bad = [q for q in here if q in wrong]
         touched = sorted({int(q) for t in self.sets.taken(point) for q in self.cases.leaf.moves[t]} - set(here))
-        order = [{q} for q in bad] + [wrong] + [{q} for q in [*here, *touched] if q not in bad]
+        order = [wrong] + [{q} for q in bad] + [{q} for q in [*here, *touched] if q not in bad]
         seen: set[States] = set()
         for one in order[:SETS]:
             states = frozenset(one)
