@@ -194,7 +194,8 @@ def giving_back(case: Case, top: str, met: str, made: str) -> Case:
 
 def restless_flock() -> Case:
     """Agents add up to 4; who has 4 goes on in two looks, and gives 2 to empty agents."""
-    moves = [("1", "1", "2", "0"), ("2", "2", "4", "0"), ("4", "4", "4", "F"), ("4", "F", "4", "4"), ("F", "F", "4", "4")]
+    moves = [("1", "1", "2", "0"), ("2", "2", "4", "0")]
+    moves += [("4", "4", "4", "F"), ("4", "F", "4", "4"), ("F", "F", "4", "4")]
     for look, other in (("4", "F"), ("F", "4")):
         moves += [(look, "0", look, "2"), (look, "1", look, other), (look, "2", look, other)]
     return one(

@@ -118,7 +118,8 @@ class Names:
 
     def _never(self, key: Sequence[int], places: slice) -> list[str]:
         states = set(key)
-        return [f"never[{self.move(t)}]" for t, m in enumerate(self.leaf.moves) if not states.isdisjoint(list(m)[places])]
+        moves = enumerate(self.leaf.moves)
+        return [f"never[{self.move(t)}]" for t, m in moves if not states.isdisjoint(list(m)[places])]
 
     def _unmarked(self, key: Sequence[int]) -> list[str]:
         states, text = set(key), self.braces(key)

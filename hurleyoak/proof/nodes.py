@@ -83,7 +83,7 @@ class Open:
 
 @dataclass(frozen=True)
 class First:
-    """A move enters a set of states in which nobody was before; or somebody started there; or nobody ever was in it."""
+    """A move enters a set of states in which nobody was before; or somebody started in it; or nobody ever was there."""
 
     states: tuple[int, ...]
 

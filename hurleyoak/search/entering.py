@@ -1,7 +1,7 @@
 """`first` where nothing else excludes a point: nobody came into a set, as no move could be the first to bring one in.
 
-The crowd before that move was reached without any move that touches the set. So a search of its own is made there, with
-fewer moves, and with nothing dead.
+The crowd before that move was reached without any move that touches the set. So a search of its own is made there,
+with fewer moves, and with nothing dead.
 """
 from __future__ import annotations
 
@@ -86,8 +86,8 @@ class Entering(Lemmas):
         return level
 
     def _sets_entered(self, point: Array) -> Iterator[States]:
-        """Sets that the point enters: all states with a wrong output; single states of its end, first such ones; single
-        states that its moves name."""
+        """Sets that the point enters: all states with a wrong output; single states of its end, first such ones; and
+        single states that its moves name."""
         crowd, wrong = self.sets.crowd(point), self._wrong()
         here = [int(q) for q in np.nonzero(crowd > EPSILON)[0]]
         bad = [q for q in here if q in wrong]

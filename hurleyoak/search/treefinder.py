@@ -31,8 +31,8 @@ Found = tuple[Prover, Grown]
 
 @dataclass(frozen=True)
 class Sought:
-    """What a tree is looked for: a branch with these facts; in exact numbers where floats won't do, and with `first` where
-    it may stand."""
+    """What a tree is looked for: a branch with these facts; in exact numbers where floats won't do, and with `first`
+    where it may stand."""
 
     cases: Cases
     base: Case

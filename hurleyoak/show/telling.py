@@ -233,9 +233,9 @@ def _wrong_end(net: Net, names: Names, result: Result, text: str) -> str:
     active = set(leaf.active)
     way = moves_told(names, ((t, n) for t, n in enumerate(taken) if n and t in active))
     told = (
-        f"tree for {result.kind}: no sum, trap, siphon, first entry or pair that could react excludes this"
-        f" candidate for a wrong end.\nInput {_input(net, counts)}, where `{text}` is {result.kind}; end: {agents_told(names, end)}; taken,"
-        f" in some order: {way or 'no move'}\n"
+        f"tree for {result.kind}: no sum, trap, siphon, first entry or pair that could react excludes this candidate"
+        f" for a wrong end.\nInput {_input(net, counts)}, where `{text}` is {result.kind}; end:"
+        f" {agents_told(names, end)}; taken, in some order: {way or 'no move'}\n"
     )
     if result.order is not None and result.order.is_whole and not result.order.is_found:
         told += (
@@ -253,6 +253,6 @@ def _wrong_end(net: Net, names: Names, result: Result, text: str) -> str:
         told
         + f"It can't be reached: all {result.crowds} crowds of this input were tried, and none is a wrong end. The"
         " protocol is right there, and its proof needs a reason that these nodes can't give, such as in which order"
-        " moves were taken, beyond the first one that enters a set. What helps: make the set of these states a trap or siphon, by a move that converts them,"
-        " or without a move that enters it"
+        " moves were taken after the first one that enters a set. What helps: make the set of these states a trap or"
+        " siphon, by a move that converts them, or without a move that enters it"
     )
