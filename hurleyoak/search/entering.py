@@ -61,8 +61,8 @@ class Entering(Lemmas):
         return [[row_of(fact) for fact in possible(space, t)] for t in space.entering(states)]
 
     def come_in(self, point: Array) -> tuple[bool, Grown | None]:
-        """Excludes a point by `first`, if a set is found whose entries all close: as a lemma where nobody starts in it
-        (then the branch is looked at again), or by a node."""
+        """Excludes a point by `first`, if a set is found whose entries all close. It is a lemma where nobody starts in
+        the set: then the branch is looked at again. Else it is a node."""
         if self.depth <= 0:
             return False, None
         level = self._level_of_inputs()

@@ -252,7 +252,7 @@ def _wrong_end(net: Net, names: Names, result: Result, text: str) -> str:
     return (
         told
         + f"It can't be reached: all {result.crowds} crowds of this input were tried, and none is a wrong end. The"
-        " protocol is right there, and its proof needs a reason that these nodes can't give, such as in which order"
-        " moves were taken after the first one that enters a set. What helps: make the set of these states a trap or"
+        " protocol is right there. Its proof needs a reason that these nodes can't give, such as the order of moves"
+        " behind the first one that enters a set. What helps: make the set of these states a trap or"
         " siphon, by a move that converts them, or without a move that enters it"
     )
