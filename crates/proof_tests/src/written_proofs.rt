@@ -15,7 +15,7 @@ const NET: &str =
 
 /// Nodes of each kind; the greatest and the least numbers are among them.
 const NODES: &str =
-    "[[\"present\",0],[\"lin\",[[0,0],[0,1099511627776]]],[\"residue\",200,[]],[\"split\",[[0,0],[4294967295,-1]],-1099511627776],[\"present\",65535],[\"twin\",0],[\"trap\",[]],[\"siphon\",[0,65535]],[\"open\",4294967295]]";
+    "[[\"present\",0],[\"lin\",[[0,0],[0,1099511627776]]],[\"residue\",200,[]],[\"split\",[[0,0],[4294967295,-1]],-1099511627776],[\"present\",65535],[\"twin\",0],[\"trap\",[]],[\"siphon\",[0,65535]],[\"open\",4294967295],[\"first\",[1,65535]]]";
 
 const LAYERS: &str = "[{\"moves\":[0,1],\"weights\":[1,0]}]";
 
