@@ -49,7 +49,14 @@ def _parts(text: str) -> tuple[list[list[int]], list[int], list[bool]]:
 
 
 def with_proof(text: str, bundle: Bundle) -> str:
-    """The text with the proof of this bundle, whose net it has; InputFault where it can't be put in."""
+    """The text with the proof of this bundle, whose net it has, and with the ends of lines that it had; InputFault
+    where it can't be put in."""
+    end = "\r\n" if "\r\n" in text else "\n"
+    return _with_proof(text.replace("\r\n", "\n"), bundle).replace("\n", end)
+
+
+def _with_proof(text: str, bundle: Bundle) -> str:
+    """The same of a text whose lines end as they do in Python."""
     lines = text.split("\n")
     proofs, lasts, computes = _parts(text)
     taken = {number for proof in proofs for number in proof}

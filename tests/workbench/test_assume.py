@@ -42,3 +42,9 @@ def test_inputs_that_are_left_out_are_no_counterexample() -> None:
     run = pop("simulate", "-", "x=3", "y=3", text="assume x != y\n" + NET)
     assert run.returncode == program.REFUSED and "doesn't meet what the file assumes: x - y != 0" in run.stderr
     assert pop("simulate", "-", "x=3", "y=2", text="assume x != y\n" + NET).returncode == 0
+
+
+@needs_program
+def test_that_no_input_was_tried_is_told() -> None:
+    run = pop("refute", "--agents", "4", text="assume x >= 5 && x < 3\n" + NET)
+    assert run.returncode == 4 and run.stdout.startswith("no input was tried: none of up to 4 agents plus helpers")

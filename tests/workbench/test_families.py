@@ -136,3 +136,10 @@ def test_a_loop_outside_a_family_is_told() -> None:
     with pytest.raises(TextFault) as caught:
         load_pop("inputs x: 0\nfor i in 0..2\n  {i} + 0 -> 0 + 0\n", "file")
     assert caught.value.line == 2 and "`family m in 3`" in caught.value.told
+
+
+def test_a_value_that_no_member_has_is_refused() -> None:
+    from .test_commands import pop
+
+    run = pop("text", str(EXAMPLES / "families" / "flock.pop"), "--with", "c=99")
+    assert run.returncode == 1 and "`c` is 2 to 12 in this family, found 99" in run.stderr

@@ -20,6 +20,7 @@ from hurleyoak.show.explaining import explain
 from hurleyoak.show.values import explanation_value
 from hurleyoak.text.files import load
 from hurleyoak.text.loaded import Loaded, LoadedNet, strict_bundle
+from hurleyoak.text.saving import with_proof
 from hurleyoak.text.writer import text_of
 
 from .changes import changed
@@ -234,6 +235,12 @@ def test_they_are_found_again(path: Path) -> None:
     line = path.with_suffix(".expected").read_text().strip()
     assert found is not None and verdict(found) == second(found.value()) == line
     assert len(found.proof[0].tree(False)) <= len(bundle.proof[0].tree(False))
+
+
+def test_a_saved_proof_has_the_ends_of_lines_of_its_text() -> None:
+    text = FLOCK.read_text().replace("\n", "\r\n")
+    made = with_proof(text.split("layer ")[0], bundle_in(FLOCK))
+    assert made.count("\n") == made.count("\r\n") > 20 and strict_bundle(load(made, "f")) == bundle_in(FLOCK)
 
 
 def test_what_is_written_is_kept() -> None:

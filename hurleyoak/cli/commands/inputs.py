@@ -64,6 +64,8 @@ def _complete(values: dict[str, int], found: list[dict[str, int]]) -> Mapping[st
         if name not in values and len(every) > 1:
             raise UsageFault(f"`{WITH}` lacks the parameter `{name}`, {min(every)} to {max(every)}")
         out[name] = values.get(name, min(every))
+        if out[name] not in every:
+            raise UsageFault(f"`{name}` is {min(every)} to {max(every)} in this family, found {out[name]}")
     return out
 
 

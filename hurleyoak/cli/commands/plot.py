@@ -21,6 +21,7 @@ from ..usage import UsageFault
 from ..table.reading import Given, takes
 
 NAMELESS = "standard input"
+OF_CURVES = ("--states", "--by")
 ENDINGS = (".svg", ".png", ".pdf")
 LEAST_INCHES, MOST_INCHES = 2.0, 40.0
 
@@ -102,6 +103,15 @@ def _checked(given: Given) -> None:
     size_of(given.text("--size"))
 
 
+def _checked_table(given: Given) -> None:
+    """UsageFault where something is asked that a sweep's table doesn't have."""
+    if len(given.words) > 1:
+        raise UsageFault("the table of a sweep is drawn alone: it has all its nets")
+    for option in OF_CURVES:
+        if given.has(option):
+            raise UsageFault(f"`{option}` is for a journal, a trace or many runs: a sweep's table has no states")
+
+
 def run(given: Given) -> int:
     """Draws what the input is, which is seen from its first line; two curves are drawn on the same axes."""
     _checked(given)
@@ -109,8 +119,7 @@ def run(given: Given) -> int:
     for path in given.words or [STANDARD_INPUT]:
         text, name = read_text(path), NAMELESS if path == STANDARD_INPUT else path
         if text.startswith(TABLE_MARK):
-            if len(given.words) > 1:
-                raise UsageFault("the table of a sweep is drawn alone: it has all its nets")
+            _checked_table(given)
             _put_table(given, *read_csv(text, name))
             return DONE
         shown.append(_shown(given, text, name))

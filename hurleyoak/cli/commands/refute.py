@@ -69,6 +69,9 @@ def run(given: Given) -> int:
         assert loaded.predicate is not None
         print(restless_told(loaded.net, tree, loaded.predicate, tried.restless, tried, OFFERED))
         return NOT_FOUND
+    if not tried.inputs and loaded.assumed:
+        print(f"no input was tried: none of up to {whole} agents plus helpers is one of those{that_meet(loaded)}")
+        return NOT_FOUND
     print(
         f"no flaw: all inputs of up to {whole} agents plus helpers{that_meet(loaded)} were tried"
         if whole or agents == 0
