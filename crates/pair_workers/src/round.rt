@@ -77,8 +77,14 @@ fn field_round<R: Threads + Wait + Sync, G: Gate>(
         pickers,
         turns,
     };
-    let (field, mut seat, mut others) =
-        open_round(rt, alloc, run.net, run.spec.shards, others, layout)?;
+    let (field, mut seat, mut others) = open_round(
+        rt,
+        alloc,
+        run.net,
+        run.spec.shards,
+        others,
+        layout,
+    )?;
     seat.reserve(turns)?;
     let mut first = Worker { seat, picker };
     let signals = Signals::new(false);

@@ -20,12 +20,7 @@ pub struct Worker {
 }
 
 /// The worker makes its next picks and meetings, until it is told to stop.
-pub(crate) fn work<R: Wait, G: Gate>(
-    rt: &R,
-    field: &Field,
-    worker: &mut Worker,
-    shift: &Shift<G>,
-)
+pub(crate) fn work<R: Wait, G: Gate>(rt: &R, field: &Field, worker: &mut Worker, shift: &Shift<G>)
     requires agents { IsCrowdSize (agents_of_field field.now) }
     requires may { MayWork field.now shift.now.turns worker.old }
     ensures { HasWorked field.now shift.now.turns shift.now.signals.now.observed worker.old worker.new }

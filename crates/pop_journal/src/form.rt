@@ -112,12 +112,14 @@ pub(crate) fn checked(
         → ((w : ℕ) (d : ℕ) → w < spec.now.workers → slice_index_or made.now w d ≡ length (meetings_of w meetings))
         → meeting_told spec.now agents rounds meetings told ≡ onward spec.now rounds meetings result }
 {
-    let Some(MeetingLine {
-        worker,
-        first,
-        second,
-        changed,
-    }) = told
+    let Some(
+        MeetingLine {
+            worker,
+            first,
+            second,
+            changed,
+        },
+    ) = told
     else {
         return Err(JournalWhy::Form);
     };

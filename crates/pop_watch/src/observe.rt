@@ -83,6 +83,8 @@ pub(crate) fn observe<R: Wait, G: Gate>(
     ensures { IsSeatOf field.now seat.new × KeepsLogs seat.old seat.new }
 {
     let observed = look_on(rt, alloc, run, field, seat, shift);
-    shift.gate.pass(run.spec.workers, u64::from(seat.looks()) + 1);
+    shift
+        .gate
+        .pass(run.spec.workers, u64::from(seat.looks()) + 1);
     observed
 }

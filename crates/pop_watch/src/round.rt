@@ -88,8 +88,14 @@ fn field_round<R: Threads + Wait + Sync, G: Gate>(
         → slice_index_or r.1.items w d ≡ made_by w r.0.meetings.items)) }
 {
     let turns = start.turns;
-    let (field, mut seat, mut workers) =
-        open_round(rt, alloc, run.net, run.spec.shards, start, layout)?;
+    let (field, mut seat, mut workers) = open_round(
+        rt,
+        alloc,
+        run.net,
+        run.spec.shards,
+        start,
+        layout,
+    )?;
     field.reserve_looks(alloc, &mut seat, LOOKS_A_ROUND)?;
     let signals = Signals::new(true);
     let shift = Shift {

@@ -13,8 +13,8 @@ use crate::context::RunContext;
 use crate::round::watched_round;
 use agent_field::Layout;
 use pair_workers::{
-    End, ROUND_TURNS, RoundContext, RoundEnd, RoundSink, RoundStart, end_of, first_pickers, goes_on,
-    next_round,
+    End, ROUND_TURNS, RoundContext, RoundEnd, RoundSink, RoundStart, end_of, first_pickers,
+    goes_on, next_round,
 };
 use pop_crowd::Crowd;
 use pop_io::{Gate, NoMemory};
