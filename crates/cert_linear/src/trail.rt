@@ -66,6 +66,13 @@ impl Trail {
         self.facts.len() as u32
     }
 
+    /// The facts in order. It allocates nothing.
+    pub fn as_slice(&self) -> &[Fact]
+        ensures { result.now ≡ self.now }
+    {
+        self.facts.as_slice()
+    }
+
     /// It allocates nothing.
     pub fn fact(&self, i: u32) -> &Fact
         requires { i < length self.now }

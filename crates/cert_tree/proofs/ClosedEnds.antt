@@ -1,6 +1,6 @@
 -- Nodes that close facts leave no end that meets them all.
 use Rattle.std.proofs.Common.{◌≡◌, ◌⊎◌, inl, inr, ℕ, zero, suc, ◌<◌, Bool, true, false, not, ◌&&◌, List, [], ◌∷◌, ◌++◌, length, map, refl, sym, subst, arith}
-use Rattle.std.specs.Prelude.{Option, Some, None, pos, ◌==◌, nat_lt, slice_get, if◌then◌else◌}
+use Rattle.std.specs.Prelude.{Option, Some, None, pos, negsuc, ◌==◌, nat_lt, slice_get, if◌then◌else◌}
 use Rattle.std.specs.List.{list_all, filter}
 use Rattle.std.proofs.lemmas.Bool.{ltb-true}
 use Rattle.std.proofs.lemmas.List.Elements.{All-append}
@@ -12,17 +12,17 @@ use Rattle.pop_net.specs.LeafModel.{LeafModel, IsLeaf}
 use Rattle.cert_base.specs.declared.fact.Fact.{Fact}
 use Rattle.cert_base.specs.declared.fact.Fact.TheVariants.{Ge, Eq, Cong, NotCong, Holds}
 use Rattle.cert_base.specs.declared.node.Node.{Node}
-use Rattle.cert_base.specs.declared.node.Node.TheVariants.{Linear, Residue, Split, Present, Twin, Trap, Siphon, Open}
-use Rattle.cert_base.specs.Rows.{single_row, input_variable, move_variable, variable_count, constant_row}
+use Rattle.cert_base.specs.declared.node.Node.TheVariants.{Linear, Residue, Split, Present, Twin, Trap, Siphon, Open, First}
+use Rattle.cert_base.specs.Rows.{single_row, input_variable, state_variable, move_variable, variable_count, constant_row}
 use Rattle.cert_base.specs.Valuation.{Valuation, MeetsFact}
-use Rattle.cert_base.specs.FactsAndCases.{states_of, flow, two_agents_fact, wrong_output_fact, base_list, outside_fact, goal_list, can_meet_in, absent_fact, alone_fact, not_twice, cases_of_present, is_in, takes_from, puts_into, places_from, no_moves, no_start_facts, count_row, cases_of_trap, cases_of_siphon, cases_of_split, open_tree, cases_of_open, helpers_among, no_helper_facts}
-use Rattle.cert_base.specs.Closes.{name_below, refutes, where_in_range, opened, only_case, cases_for, ClosesUnderFor, refuted, by_cases, ClosesEachFor, no_case, next_case}
+use Rattle.cert_base.specs.FactsAndCases.{states_of, flow, two_agents_fact, wrong_output_fact, base_list, outside_fact, goal_list, can_meet_in, absent_fact, occurs_fact, alone_fact, not_twice, cases_of_present, is_in, takes_from, puts_into, places_from, no_moves, no_start_facts, count_row, cases_of_trap, cases_of_siphon, cases_of_split, open_tree, cases_of_open, helpers_among, no_helper_facts, touches, enters, cases_of_first, is_about_inputs, before_entry, is_possible}
+use Rattle.cert_base.specs.Closes.{name_below, refutes, where_in_range, opened, only_case, cases_for, ClosesUnderFor, refuted, by_cases, by_first, ClosesEachFor, no_case, next_case}
 use Rattle.cert_base.specs.Ends.{IsEndFor, HaveSamePlaces, MeetsAll, MeetsOne}
 use Rattle.cert_base.proofs.Openings.{open_cases-cover, split_cases-cover}
 use Rattle.cert_linear.proofs.Linear.{linear_closes-none}
 use Rattle.cert_linear.proofs.Multiples.{residue_closes-none}
 use Rattle.cert_traps.proofs.Covers.{present-cover, twin-one, trap-cover, siphon-cover}
-use Rattle.cert_tree.specs.Frames.{CoverUnder}
+use Rattle.cert_traps.proofs.FirstEnds.{first-cover}
 
 -- ---- facts of predicates within the limits
 
@@ -108,7 +108,44 @@ open_formed n (Conjunction p q) false has = ((has.0, tt), ((has.1, tt), tt))
 open_formed n (Disjunction p q) true has = ((has.0, tt), ((has.1, tt), tt))
 open_formed n (Disjunction p q) false has = ((has.0, (has.1, tt)), tt)
 
+kept_formed : (keep : Bool) (f : Fact) (rest : List Fact) → IsFormed f → AreFormed rest → AreFormed (if keep then (f ∷ rest) else rest)
+kept_formed true f rest h k = (h, k)
+kept_formed false f rest h k = k
+
+filter_formed : (test : Fact → Bool) (facts : List Fact) → AreFormed facts → AreFormed (filter test facts)
+filter_formed test [] h = tt
+filter_formed test (f ∷ facts) h = kept_formed (test f) f (filter test facts) h.0 (filter_formed test facts h.1)
+
+first_formed : (leaf : LeafModel) (set : List ℕ) → AreCasesFormed (cases_of_first leaf set)
+first_formed leaf set =
+    ((tt, tt), (append_formed (no_moves leaf (touches set)) (Eq (count_row leaf set (pos 0)) ∷ []) (taken_formed leaf (touches set)) (tt, tt), tt))
+
+possible_formed : (leaf : LeafModel) (moves : List Move) → AreCasesFormed (map (is_possible leaf) moves)
+possible_formed leaf [] = tt
+possible_formed leaf (t ∷ moves) = (two (t.p == t.q), possible_formed leaf moves)
+  where
+    two : (twice : Bool) → AreFormed (if twice then (Ge (single_row (state_variable leaf t.p) (pos 1) (negsuc 1)) ∷ []) else (occurs_fact leaf t.p ∷ occurs_fact leaf t.q ∷ []))
+    two true = (tt, tt)
+    two false = (tt, (tt, tt))
+
+before_formed : (leaf : LeafModel) (set : List ℕ) (facts : List Fact) → AreFormed facts → AreFormed (before_entry leaf set facts)
+before_formed leaf set facts formed =
+    let flows = map (flow leaf) (states_of leaf) in
+    let given = filter (is_about_inputs leaf) facts in
+    append_formed (flows ++ given ++ no_moves leaf (touches set) ++ no_start_facts leaf set) (Eq (count_row leaf set (pos 0)) ∷ no_helper_facts leaf set)
+    (append_formed (flows ++ given ++ no_moves leaf (touches set)) (no_start_facts leaf set)
+    (append_formed (flows ++ given) (no_moves leaf (touches set))
+    (append_formed flows given (map_formed (flow leaf) (states_of leaf) (λ q. tt)) (filter_formed (is_about_inputs leaf) facts formed))
+    (taken_formed leaf (touches set)))
+    (started_formed leaf set))
+    (tt, none_helps_formed leaf set (helpers_among leaf set == 0))
+
 -- ---- the cases of a node
+
+-- every end that meets the facts also meets all facts of one of the cases
+abbrev CoverUnder : (leaf dead : LeafModel) → List Fact → List (List Fact) → Type 0
+CoverUnder leaf dead facts cases =
+    (count : Valuation) → IsEndFor leaf dead count → MeetsAll count facts → MeetsOne count cases
 
 -- the cases are formed, and every end that meets the facts meets one of them
 abbrev IsCover : (leaf dead : LeafModel) → List Fact → List (List Fact) → Type 0
@@ -163,6 +200,7 @@ node_cover leaf dead facts (Siphon set) cases is same formed e =
     let given = in_range_is (list_all (λ q. nat_lt q (length leaf.states)) set) (cases_of_siphon leaf set) cases e in
     subst (λ (cs : List (List Fact)). IsCover leaf dead facts cs) given.1
     (siphon_formed leaf set, λ count end meets. siphon-cover leaf set dead count end)
+node_cover leaf dead facts (First set) cases is same formed e = cc
 node_cover leaf dead facts (Open f) cases is same formed e = opened_cover leaf dead facts f (slice_get facts f) cases formed refl e
 
 -- ---- the nodes
@@ -176,6 +214,7 @@ refutes_none facts (Twin p) e count meets = cc
 refutes_none facts (Trap set) e count meets = cc
 refutes_none facts (Siphon set) e count meets = cc
 refutes_none facts (Open f) e count meets = cc
+refutes_none facts (First set) e count meets = cc
 
 no_case_met : (count : Valuation) → MeetsOne count [] → ⊥
 no_case_met count one = let l = one.1.1 in absurd (omega (arith, l))
@@ -190,6 +229,11 @@ mutual
   closes_none {leaf} {dead} (by_cases above facts node nodes rest cases limits c each) is same formed count end meets =
       let cover = node_cover leaf dead facts node cases is same formed c in
       each_none each is same formed cover.0 count end meets (cover.1 count end meets)
+  closes_none {leaf} {dead} (by_first above facts set nodes between rest limits named entry each) is same formed count end meets =
+      elim (first-cover leaf set is dead facts count end meets) [
+        | inl one ↦ each_none each is same formed (first_formed leaf set) count end meets one
+        | inr entered ↦ each_none entry is (record { inputs = refl; states = refl }) (before_formed leaf set facts formed) (possible_formed leaf (filter (enters set) leaf.moves)) entered.count entered.reached entered.before entered.entry
+      ]
 
   each_none : {leaf dead : LeafModel} {above : ℕ} {facts : List Fact} {cases : List (List Fact)} {nodes rest : List Node} → ClosesEachFor leaf dead above facts cases nodes rest → IsLeaf leaf → HaveSamePlaces leaf dead → AreFormed facts → AreCasesFormed cases → (count : Valuation) → IsEndFor leaf dead count → MeetsAll count facts → MeetsOne count cases → ⊥
   each_none {leaf} {dead} (no_case above facts rest) is same formed own_formed count end meets one = no_case_met count one

@@ -5,7 +5,7 @@ use Rattle.std.proofs.lemmas.List.Elements.{All-nil, All-cons}
 use Rattle.std.proofs.lemmas.List.Kept.{AllPairs-cons}
 use Rattle.cert_base.specs.declared.fact.Term.{Term}
 use Rattle.cert_base.specs.declared.node.Node.{Node}
-use Rattle.cert_base.specs.declared.node.Node.TheVariants.{Linear, Residue, Split, Present, Twin, Trap, Siphon, Open}
+use Rattle.cert_base.specs.declared.node.Node.TheVariants.{Linear, Residue, Split, Present, Twin, Trap, Siphon, Open, First}
 use Rattle.cert_base.specs.ProofLimits.{IsAscending, AreTermsWithin, IsNodeWithin, AreNodesWithin}
 use Rattle.cert_linear.specs.Conditions.{AreAscending, AreMultipliers}
 use Rattle.cert_tree.specs.Format.{IsWithinFormat}
@@ -38,6 +38,7 @@ node_format (Twin p) within = tt
 node_format (Trap set) within = tt
 node_format (Siphon set) within = tt
 node_format (Open f) within = tt
+node_format (First set) within = tt
 
 pub nodes_format : (nodes : List Node) → AreNodesWithin nodes → All IsWithinFormat nodes
 nodes_format nodes within = λ k d l. node_format (get_or nodes k d) (within.1 k d l)

@@ -1,10 +1,15 @@
 pub mod Passing
 pub mod Formats
 pub mod ClosedWalk
-pub mod Rooms
+pub mod ShortCases
 pub mod Stacks
+pub mod Puts
 pub mod Passed
 pub mod Ordered
+pub mod Passages
+pub mod Refused
+pub mod Entries
+pub mod Places
 pub mod Visits
 pub mod Starts
 pub mod Verdicts

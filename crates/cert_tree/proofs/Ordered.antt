@@ -3,7 +3,7 @@ use Rattle.std.proofs.Common.{ℕ, suc, ◌+◌, ◌<◌, ◌≤◌, Bool, true,
 use Rattle.std.specs.Prelude.{ℤ, pos, negsuc, neg_ℤ, ◌-ℤ◌, ◌==◌, All, Option, Some, None, unwrap_or, slice_get, slice_index_or, nat_lt, if◌then◌else◌}
 use Rattle.std.specs.List.{list_all, filter}
 use Rattle.std.specs.Ordering.{int_eq}
-use Rattle.std.proofs.lemmas.List.Elements.{All-nil, All-cons, All-map}
+use Rattle.std.proofs.lemmas.List.Elements.{All-nil, All-cons, All-map, All-append, All-filter}
 use Rattle.std.proofs.lemmas.List.Kept.{AllPairs-cons, AllPairs-filter}
 use Rattle.pop_net.specs.declared.leaf.Move.{Move}
 use Rattle.pop_net.specs.LeafModel.{LeafModel, pre, post}
@@ -14,9 +14,9 @@ use Rattle.cert_base.specs.declared.fact.Row.{Row}
 use Rattle.cert_base.specs.declared.fact.Fact.{Fact}
 use Rattle.cert_base.specs.declared.fact.Fact.TheVariants.{Ge, Eq, Cong, NotCong, Holds}
 use Rattle.cert_base.specs.declared.node.Node.{Node}
-use Rattle.cert_base.specs.declared.node.Node.TheVariants.{Linear, Residue, Split, Present, Twin, Trap, Siphon, Open}
+use Rattle.cert_base.specs.declared.node.Node.TheVariants.{Linear, Residue, Split, Present, Twin, Trap, Siphon, Open, First}
 use Rattle.cert_base.specs.Rows.{constant_row, terms_from, single_row, input_row, state_row, zeros, input_variable, state_variable, move_variable, variable_count}
-use Rattle.cert_base.specs.FactsAndCases.{helpers_starting, helpers_among, no_helper_facts, indicator, states_of, flow, two_agents_fact, differs, wrong_output_fact, base_list, outside_fact, goal_list, absent_fact, occurs_fact, alone_fact, not_twice, can_meet_in, cases_of_present, is_in, takes_from, puts_into, places_from, no_moves, no_start_facts, some_taken_fact, count_row, cases_of_trap, cases_of_siphon, plus, negated_row, signs_of, without_zeros, cases_of_split, over_count, open_tree}
+use Rattle.cert_base.specs.FactsAndCases.{helpers_starting, helpers_among, no_helper_facts, indicator, states_of, flow, two_agents_fact, differs, wrong_output_fact, base_list, outside_fact, goal_list, absent_fact, occurs_fact, alone_fact, not_twice, can_meet_in, cases_of_present, is_in, takes_from, puts_into, places_from, no_moves, no_start_facts, some_taken_fact, count_row, cases_of_trap, cases_of_siphon, plus, negated_row, signs_of, without_zeros, cases_of_split, over_count, open_tree, touches, enters, cases_of_first, is_about_inputs, before_entry, is_possible, cases_of_entry}
 use Rattle.cert_base.specs.Closes.{name_below, where_in_range, opened, only_case}
 use Rattle.cert_linear.specs.Conditions.{AreAscending, IsOrdered}
 use Rattle.cert_tree.specs.Refusals.{cases_at}
@@ -282,6 +282,43 @@ twin_ordered leaf p true true =
 twin_ordered leaf p true false = no_case
 twin_ordered leaf p false b = no_case
 
+-- ---- a set that is entered
+
+first_ordered : (leaf : LeafModel) (set : List ℕ) → CasesOrdered (cases_of_first leaf set)
+first_ordered leaf set =
+    let starts = map (λ start. indicator (is_in set start)) leaf.inputs in
+    let some_start = pos (helpers_among leaf set) -ℤ pos 1 in
+    two_cases (Ge (input_row starts some_start) ∷ []) (no_moves leaf (touches set) ++ Eq (count_row leaf set (pos 0)) ∷ [])
+    (one_fact (Ge (input_row starts some_start)) (dense_ge starts some_start))
+    (append_ordered (no_moves leaf (touches set)) (Eq (count_row leaf set (pos 0)) ∷ []) (none_taken_ordered leaf (touches set)) (one_fact (Eq (count_row leaf set (pos 0))) (zero_over_states leaf (marks leaf set) (pos 0))))
+
+possible_ordered : (leaf : LeafModel) (t : Move) (twice : Bool) → AllOrdered (if twice then (Ge (single_row (state_variable leaf t.p) (pos 1) (negsuc 1)) ∷ []) else (occurs_fact leaf t.p ∷ occurs_fact leaf t.q ∷ []))
+possible_ordered leaf t true =
+    one_fact (Ge (single_row (state_variable leaf t.p) (pos 1) (negsuc 1))) (single_ge (state_variable leaf t.p) (pos 1) (negsuc 1))
+possible_ordered leaf t false =
+    more_facts (occurs_fact leaf t.p) (occurs_fact leaf t.q ∷ []) (single_ge (state_variable leaf t.p) (pos 1) (negsuc 0)) (one_fact (occurs_fact leaf t.q) (single_ge (state_variable leaf t.q) (pos 1) (negsuc 0)))
+
+all_possible_ordered : (leaf : LeafModel) (moves : List Move) → CasesOrdered (map (is_possible leaf) moves)
+all_possible_ordered leaf [] = no_case
+all_possible_ordered leaf (t ∷ moves) =
+    more_cases (is_possible leaf t) (map (is_possible leaf) moves) (possible_ordered leaf t (t.p == t.q)) (all_possible_ordered leaf moves)
+
+pub entries_ordered : (leaf : LeafModel) (set : List ℕ) → CasesOrdered (cases_of_entry leaf set)
+entries_ordered leaf set = all_possible_ordered leaf (filter (enters set) leaf.moves)
+
+pub before_ordered : (leaf : LeafModel) (set : List ℕ) (facts : List Fact) → All IsOrdered facts → All IsOrdered (before_entry leaf set facts)
+before_ordered leaf set facts ordered =
+    let flows = map (flow leaf) (states_of leaf) in
+    let given = filter (is_about_inputs leaf) facts in
+    let none = more_facts (Eq (count_row leaf set (pos 0))) (no_helper_facts leaf set) (zero_over_states leaf (marks leaf set) (pos 0)) (none_helps_ordered leaf set (helpers_among leaf set == 0)) in
+    All-append IsOrdered (flows ++ given ++ no_moves leaf (touches set) ++ no_start_facts leaf set) (Eq (count_row leaf set (pos 0)) ∷ no_helper_facts leaf set)
+    (All-append IsOrdered (flows ++ given ++ no_moves leaf (touches set)) (no_start_facts leaf set)
+    (All-append IsOrdered (flows ++ given) (no_moves leaf (touches set))
+    (All-append IsOrdered flows given (all_of (map_ordered (flow leaf) (states_of leaf) (flow_ordered leaf))) (All-filter (is_about_inputs leaf) IsOrdered facts ordered))
+    (all_of (none_taken_ordered leaf (touches set))))
+    (all_of (none_started_ordered leaf set)))
+    (all_of none)
+
 opened_ordered : (o : Option Fact) → CasesOrdered (unwrap_or (opened o) [])
 opened_ordered None = no_case
 opened_ordered (Some (Ge row)) = no_case
@@ -300,3 +337,4 @@ cases_ordered leaf dead facts (Twin p) within = twin_ordered dead p (nat_lt p (l
 cases_ordered leaf dead facts (Trap set) within = where_ordered (list_all (λ q. nat_lt q (length leaf.states)) set) (cases_of_trap leaf set) (trap_ordered leaf set)
 cases_ordered leaf dead facts (Siphon set) within = where_ordered (list_all (λ q. nat_lt q (length leaf.states)) set) (cases_of_siphon leaf set) (siphon_ordered leaf set)
 cases_ordered leaf dead facts (Open f) within = opened_ordered (slice_get facts f)
+cases_ordered leaf dead facts (First set) within = first_ordered leaf set

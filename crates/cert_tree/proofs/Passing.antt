@@ -1,5 +1,6 @@
 -- A node that isn't refused refutes its facts or distinguishes cases, and a node that does so isn't refused.
-use Rattle.std.proofs.Common.{◌≡◌, ◌⊎◌, inl, inr, ℕ, ◌<◌, Bool, true, false, not, ◌&&◌, List, [], ◌∷◌, length, refl}
+use Rattle.std.proofs.Common.{◌≡◌, ℕ, ◌<◌, Bool, true, false, not, ◌&&◌, List, [], ◌∷◌, length, refl, ap, ◌∙◌}
+use Rattle.std.specs.List.{list_all}
 use Rattle.std.specs.Prelude.{Option, Some, None, unwrap_or, nat_lt, slice_get, if◌then◌else◌}
 use Rattle.std.proofs.lemmas.Bool.{ltb-true, lt-ltb}
 use Rattle.std.proofs.lemmas.Option.{slice_get_within}
@@ -9,17 +10,19 @@ use Rattle.cert_base.specs.declared.fact.Term.{Term}
 use Rattle.cert_base.specs.declared.fact.Fact.{Fact}
 use Rattle.cert_base.specs.declared.fact.Fact.TheVariants.{Ge, Eq, Cong, NotCong, Holds}
 use Rattle.cert_base.specs.declared.node.Node.{Node}
-use Rattle.cert_base.specs.declared.node.Node.TheVariants.{Linear, Residue, Split, Present, Twin, Trap, Siphon, Open}
-use Rattle.cert_base.specs.FactsAndCases.{can_meet_in}
+use Rattle.cert_base.specs.declared.node.Node.TheVariants.{Linear, Residue, Split, Present, Twin, Trap, Siphon, Open, First}
+use Rattle.cert_base.specs.FactsAndCases.{can_meet_in, cases_of_first, before_entry, cases_of_entry}
 use Rattle.cert_base.specs.ClosingTests.{may_have, all_named, may_add, may_add_modulo}
 use Rattle.cert_base.specs.Closes.{name_below, refutes, cases_for, where_in_range, opened, only_case, MayStand}
 use Rattle.cert_tree.specs.declared.fault.TreeWhy.{TreeWhy}
 use Rattle.cert_tree.specs.declared.fault.TreeWhy.TheVariants.{TooDeep, BadIndex, NoTwin, NotOpen, NotClosed, TooManyFacts}
-use Rattle.cert_tree.specs.Refusals.{names_in_range, has_twin, is_holds, opens_holds, refutes_facts, cases_at, all_fit, own_refusal, or_else, refusal}
+use Rattle.cert_tree.specs.Refusals.{names_in_range, has_twin, is_holds, opens_holds, refutes_facts, cases_at, entries, facts_before, all_fit, have_room, own_refusal, or_else, refusal}
 
--- the node refutes the facts and has no case, or it has these cases
-abbrev pub RefutesOrDivides : (leaf dead : LeafModel) → List Fact → Node → Type 0
-RefutesOrDivides leaf dead facts node = ((refutes facts node ≡ true) × (cases_at leaf dead facts node ≡ [])) ⊎ (cases_for leaf dead facts node ≡ Some (cases_at leaf dead facts node))
+-- the node refutes the facts and has no case, or it has cases of the end alone, or it asks who entered a set
+pub data Ways (leaf dead : LeafModel) (facts : List Fact) : Node → Type 0 where
+  refutes_all : (node : Node) → refutes facts node ≡ true → cases_at leaf dead facts node ≡ [] → entries leaf node ≡ [] → Ways leaf dead facts node
+  divides : (node : Node) → cases_for leaf dead facts node ≡ Some (cases_at leaf dead facts node) → entries leaf node ≡ [] → Ways leaf dead facts node
+  may_enter : (set : List ℕ) → list_all (λ q. nat_lt q (length leaf.states)) set ≡ true → Ways leaf dead facts (First set)
 
 -- ---- nested tests
 
@@ -39,8 +42,8 @@ whole_test false b own e = cc
 
 -- ---- a node that passes its own tests
 
-twin_at : (leaf dead : LeafModel) (facts : List Fact) (p : ℕ) → nat_lt p (length leaf.states) ≡ true → can_meet_in dead p p ≡ true → RefutesOrDivides leaf dead facts (Twin p)
-twin_at leaf dead facts p e f = inr (rw (e, f) refl)
+twin_at : (leaf dead : LeafModel) (facts : List Fact) (p : ℕ) → nat_lt p (length leaf.states) ≡ true → can_meet_in dead p p ≡ true → Ways leaf dead facts (Twin p)
+twin_at leaf dead facts p e f = divides (Twin p) (rw (e, f) refl) refl
 
 open_at : (leaf : LeafModel) (facts : List Fact) (f : ℕ) (o : Option Fact) → slice_get facts f ≡ o → is_holds o ≡ true → opened o ≡ Some (unwrap_or (opened o) [])
 open_at leaf facts f None h e = cc
@@ -50,28 +53,31 @@ open_at leaf facts f (Some (Cong row m)) h e = cc
 open_at leaf facts f (Some (NotCong row m)) h e = cc
 open_at leaf facts f (Some (Holds p b)) h e = refl
 
-pub passes-own : (leaf dead : LeafModel) (facts : List Fact) (node : Node) → (names_in_range leaf facts node ≡ true) × (has_twin dead node ≡ true) × (opens_holds facts node ≡ true) × (refutes_facts facts node ≡ true) → RefutesOrDivides leaf dead facts node
-passes-own leaf dead facts (Linear terms) h = inl (h.3, refl)
-passes-own leaf dead facts (Residue m terms) h = inl (h.3, refl)
-passes-own leaf dead facts (Split row) h = inr (rw h.0 refl)
-passes-own leaf dead facts (Present p) h = inr (rw h.0 refl)
+pub passes-own : (leaf dead : LeafModel) (facts : List Fact) (node : Node) → (names_in_range leaf facts node ≡ true) × (has_twin dead node ≡ true) × (opens_holds facts node ≡ true) × (refutes_facts facts node ≡ true) → Ways leaf dead facts node
+passes-own leaf dead facts (Linear terms) h = refutes_all (Linear terms) h.3 refl refl
+passes-own leaf dead facts (Residue m terms) h = refutes_all (Residue m terms) h.3 refl refl
+passes-own leaf dead facts (Split row) h = divides (Split row) (rw h.0 refl) refl
+passes-own leaf dead facts (Present p) h = divides (Present p) (rw h.0 refl) refl
 passes-own leaf dead facts (Twin p) h = twin_at leaf dead facts p h.0 h.1
-passes-own leaf dead facts (Trap set) h = inr (rw h.0 refl)
-passes-own leaf dead facts (Siphon set) h = inr (rw h.0 refl)
-passes-own leaf dead facts (Open f) h = inr (open_at leaf facts f (slice_get facts f) refl h.2)
+passes-own leaf dead facts (Trap set) h = divides (Trap set) (rw h.0 refl) refl
+passes-own leaf dead facts (Siphon set) h = divides (Siphon set) (rw h.0 refl) refl
+passes-own leaf dead facts (Open f) h = divides (Open f) (open_at leaf facts f (slice_get facts f) refl h.2) refl
+passes-own leaf dead facts (First set) h = may_enter set h.0
 
 -- what a node that isn't refused is
 pub record Passes (leaf dead : LeafModel) (above : ℕ) (facts : List Fact) (node : Node) : Type 0 where
   pub depth : above < 4096
   pub fit : all_fit facts (cases_at leaf dead facts node) ≡ true
-  pub ways : RefutesOrDivides leaf dead facts node
+  pub before_fit : all_fit (facts_before leaf facts node) (entries leaf node) ≡ true
+  pub ways : Ways leaf dead facts node
 
 pub unrefused-passes : (leaf dead : LeafModel) (above : ℕ) (facts : List Fact) (node : Node) → refusal leaf dead above facts node ≡ None → Passes leaf dead above facts node
 unrefused-passes leaf dead above facts node e =
-    let whole = whole_test (nat_lt above 4096) (all_fit facts (cases_at leaf dead facts node)) (own_refusal leaf dead facts node) e in
+    let whole = whole_test (nat_lt above 4096) (have_room leaf dead facts node) (own_refusal leaf dead facts node) e in
     record {
       depth = ltb-true above 4096 whole.0;
-      fit = whole.1;
+      fit = and_left _ _ whole.1;
+      before_fit = and_right (all_fit facts (cases_at leaf dead facts node)) _ whole.1;
       ways = passes-own leaf dead facts node (first_test (names_in_range leaf facts node) (has_twin dead node) (opens_holds facts node) (refutes_facts facts node) whole.2);
     }
 
@@ -91,17 +97,18 @@ named_below_by may facts (t ∷ terms) e =
 abbrev PassesOwn : (leaf dead : LeafModel) → List Fact → Node → Type 0
 PassesOwn leaf dead facts node = (names_in_range leaf facts node ≡ true) × (has_twin dead node ≡ true) × (opens_holds facts node ≡ true) × (refutes_facts facts node ≡ true)
 
-refutes-passes : (leaf dead : LeafModel) (facts : List Fact) (node : Node) → refutes facts node ≡ true → PassesOwn leaf dead facts node × (cases_at leaf dead facts node ≡ [])
+refutes-passes : (leaf dead : LeafModel) (facts : List Fact) (node : Node) → refutes facts node ≡ true → PassesOwn leaf dead facts node × (cases_at leaf dead facts node ≡ []) × (entries leaf node ≡ [])
 refutes-passes leaf dead facts (Linear terms) e =
-    ((named_below_by may_add facts terms (and_left (all_named may_add facts terms) _ (and_left (all_named may_add facts terms && _) _ e)), refl, refl, e), refl)
+    ((named_below_by may_add facts terms (and_left (all_named may_add facts terms) _ (and_left (all_named may_add facts terms && _) _ e)), refl, refl, e), refl, refl)
 refutes-passes leaf dead facts (Residue m terms) e =
-    ((named_below_by (may_add_modulo m) facts terms (and_left _ _ e), refl, refl, e), refl)
+    ((named_below_by (may_add_modulo m) facts terms (and_left _ _ e), refl, refl, e), refl, refl)
 refutes-passes leaf dead facts (Split row) e = cc
 refutes-passes leaf dead facts (Present p) e = cc
 refutes-passes leaf dead facts (Twin p) e = cc
 refutes-passes leaf dead facts (Trap set) e = cc
 refutes-passes leaf dead facts (Siphon set) e = cc
 refutes-passes leaf dead facts (Open f) e = cc
+refutes-passes leaf dead facts (First set) e = cc
 
 in_range_by : (b : Bool) (all cases : List (List Fact)) → where_in_range b all ≡ Some cases → b ≡ true
 in_range_by true all cases e = refl
@@ -131,19 +138,33 @@ divides-passes leaf dead facts (Trap set) cases e = (in_range_by _ _ cases e, re
 divides-passes leaf dead facts (Siphon set) cases e = (in_range_by _ _ cases e, refl, refl, refl)
 divides-passes leaf dead facts (Open f) cases e =
     let h = open_by facts f (slice_get facts f) cases refl e in (h.0, refl, h.1, refl)
+divides-passes leaf dead facts (First set) cases e = cc
+
+divides-entries : (leaf dead : LeafModel) (facts : List Fact) (node : Node) (cases : List (List Fact)) → cases_for leaf dead facts node ≡ Some cases → entries leaf node ≡ []
+divides-entries leaf dead facts (First set) cases e = cc
+divides-entries leaf dead facts node cases e = refl
 
 own_none : (leaf dead : LeafModel) (facts : List Fact) (node : Node) → PassesOwn leaf dead facts node → own_refusal leaf dead facts node ≡ None
 own_none leaf dead facts node h = rw (h.0, h.1, h.2, h.3) refl
 
-unrefused : (leaf dead : LeafModel) (above : ℕ) (facts : List Fact) (node : Node) → above < 4096 → own_refusal leaf dead facts node ≡ None → all_fit facts (cases_at leaf dead facts node) ≡ true → refusal leaf dead above facts node ≡ None
-unrefused leaf dead above facts node l own fit = rw (lt-ltb above 4096 l, own, fit) refl
+pub unrefused : (leaf dead : LeafModel) (above : ℕ) (facts : List Fact) (node : Node) → above < 4096 → own_refusal leaf dead facts node ≡ None → all_fit facts (cases_at leaf dead facts node) ≡ true → all_fit (facts_before leaf facts node) (entries leaf node) ≡ true → refusal leaf dead above facts node ≡ None
+unrefused leaf dead above facts node l own fit before = rw (lt-ltb above 4096 l, own, fit, before) refl
 
-pub refuting-unrefused : (leaf dead : LeafModel) (above : ℕ) (facts : List Fact) (node : Node) → MayStand above facts → refutes facts node ≡ true → (refusal leaf dead above facts node ≡ None) × (cases_at leaf dead facts node ≡ [])
+-- without cases before the end, these have few enough facts
+no_entries : (leaf : LeafModel) (facts : List Fact) (node : Node) → entries leaf node ≡ [] → all_fit (facts_before leaf facts node) (entries leaf node) ≡ true
+no_entries leaf facts node e = ap (all_fit (facts_before leaf facts node)) e
+
+pub refuting-unrefused : (leaf dead : LeafModel) (above : ℕ) (facts : List Fact) (node : Node) → MayStand above facts → refutes facts node ≡ true → (refusal leaf dead above facts node ≡ None) × (cases_at leaf dead facts node ≡ []) × (entries leaf node ≡ [])
 refuting-unrefused leaf dead above facts node limits e =
     let h = refutes-passes leaf dead facts node e in
-    (unrefused leaf dead above facts node limits.depth (own_none leaf dead facts node h.0) (rw h.1 refl), h.1)
+    (unrefused leaf dead above facts node limits.depth (own_none leaf dead facts node h.0) (ap (all_fit facts) h.1) (no_entries leaf facts node h.2), h.1, h.2)
 
-pub dividing-unrefused : (leaf dead : LeafModel) (above : ℕ) (facts : List Fact) (node : Node) (cases : List (List Fact)) → MayStand above facts → cases_for leaf dead facts node ≡ Some cases → all_fit facts cases ≡ true → (refusal leaf dead above facts node ≡ None) × (cases_at leaf dead facts node ≡ cases)
+pub dividing-unrefused : (leaf dead : LeafModel) (above : ℕ) (facts : List Fact) (node : Node) (cases : List (List Fact)) → MayStand above facts → cases_for leaf dead facts node ≡ Some cases → all_fit facts cases ≡ true → (refusal leaf dead above facts node ≡ None) × (cases_at leaf dead facts node ≡ cases) × (entries leaf node ≡ [])
 dividing-unrefused leaf dead above facts node cases limits e fit =
     let same : cases_at leaf dead facts node ≡ cases = rw e refl in
-    (unrefused leaf dead above facts node limits.depth (own_none leaf dead facts node (divides-passes leaf dead facts node cases e)) (rw same fit), same)
+    let none = divides-entries leaf dead facts node cases e in
+    (unrefused leaf dead above facts node limits.depth (own_none leaf dead facts node (divides-passes leaf dead facts node cases e)) (ap (all_fit facts) same ∙ fit) (no_entries leaf facts node none), same, none)
+
+pub entering-unrefused : (leaf dead : LeafModel) (above : ℕ) (facts : List Fact) (set : List ℕ) → MayStand above facts → list_all (λ q. nat_lt q (length leaf.states)) set ≡ true → all_fit facts (cases_of_first leaf set) ≡ true → all_fit (before_entry leaf set facts) (cases_of_entry leaf set) ≡ true → refusal leaf dead above facts (First set) ≡ None
+entering-unrefused leaf dead above facts set limits named fit before =
+    unrefused leaf dead above facts (First set) limits.depth (own_none leaf dead facts (First set) (named, refl, refl, refl)) fit before

@@ -1,6 +1,6 @@
 -- What the walk's end says of the nodes.
 use Rattle.std.proofs.Common.{◌≡◌, ◌≢◌, ℕ, ◌+◌, ◌-◌, ◌<◌, Bool, true, false, List, [], ◌∷◌, length, drop, get_or, refl, ap, sym, ◌∙◌, arith}
-use Rattle.std.specs.Prelude.{Contains, Option, Some, None, count_by, slice_index, slice_index_or, nat_lt, if◌then◌else◌, ◌==◌}
+use Rattle.std.specs.Prelude.{Option, Some, None, count_by, slice_index, slice_index_or, nat_lt, if◌then◌else◌, ◌==◌}
 use Rattle.std.proofs.lemmas.Bool.{lt-ltb, le-ltb}
 use Rattle.std.proofs.lemmas.Option.{slice_get-get_or}
 use Rattle.std.proofs.lemmas.List.{drop_more}
@@ -21,7 +21,7 @@ use Rattle.pop_io.specs.declared.failure.Failure.TheVariants.{Fault, NoMemory}
 use Rattle.pop_io.specs.Failures.{Names}
 use Rattle.cert_tree.specs.declared.fault.TreeWhy.{TreeWhy}
 use Rattle.cert_tree.specs.Refusals.{Waiting, first_from, first_for, IsFaultFor}
-use Rattle.cert_tree.specs.Frames.{HaltsAt, fault_at, StillCover, NoneMeets}
+use Rattle.cert_tree.specs.Walks.{HaltsAt, fault_at, NoneMeets}
 use Rattle.cert_tree.proofs.ClosedWalk.{ClosesFor-unrefused}
 
 module _ (leaf dead : LeafModel) (facts : List Fact) (nodes : List Node) where
@@ -93,17 +93,6 @@ ends_right leaf tree value none counts end input has reached terminal k d l =
 pub none_right : (leaf : LeafModel) (tree : PredTree) (value : Bool) (facts : List Fact) → HoldAtWrongEnds leaf tree value facts → NoneMeets leaf leaf facts → EndsRight leaf tree value
 none_right leaf tree value facts met none =
     ends_right leaf tree value (λ count wrong. none count wrong.reached (met count wrong))
-
--- if nothing waits, no end meets all the facts that waited at the beginning
-pub closed_none : (leaf dead : LeafModel) (facts : List Fact) (after : List Waiting) → StillCover leaf dead ((0, facts) ∷ []) after → after ≡ [] → NoneMeets leaf dead facts
-closed_none leaf dead facts after cover none count end meets =
-    let waits = cover count end ((0, facts), (0, omega arith, refl), meets) in nothing (rw none at waits.1)
-  where
-    nothing : {at : Waiting} → Contains [] at → ⊥
-    nothing (k, l, e) = absurd (omega arith)
-
-pub cover_on : (leaf dead : LeafModel) (a b c : List Waiting) → StillCover leaf dead a b → StillCover leaf dead b c → StillCover leaf dead a c
-cover_on leaf dead a b c f g count end meets = g count end (f count end meets)
 
 -- ---- the nodes that are left
 

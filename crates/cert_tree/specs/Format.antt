@@ -4,6 +4,7 @@ use Rattle.pres_ast.specs.declared.limits.TheConstants.{MODULUS_LIMIT}
 use Rattle.cert_base.specs.declared.limits.TheConstants.{SIZE_LIMIT}
 use Rattle.cert_base.specs.declared.node.Node.{Node}
 use Rattle.cert_base.specs.declared.node.Node.TheVariants.{Linear, Residue, Split, Present, Twin, Trap, Siphon, Open}
+use Rattle.cert_base.specs.declared.node.Node.TheVariants.{First}
 use Rattle.cert_linear.specs.Conditions.{AreAscending, AreMultipliers}
 
 -- few and small multipliers, a modulus within its limits, ascending variables with small coefficients and a small
@@ -18,3 +19,4 @@ IsWithinFormat (Twin p) = Unit {0}
 IsWithinFormat (Trap set) = Unit {0}
 IsWithinFormat (Siphon set) = Unit {0}
 IsWithinFormat (Open f) = Unit {0}
+IsWithinFormat (First set) = Unit {0}

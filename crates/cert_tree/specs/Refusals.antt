@@ -1,5 +1,5 @@
 -- Refusals: which node of a tree is refused first, and why.
-use Rattle.std.specs.Prelude.{◌≡◌, ◌≤◌, ℕ, ◌+◌, Bool, true, false, not, if◌then◌else◌, nat_lt, nat_le, List}
+use Rattle.std.specs.Prelude.{◌≡◌, ◌≤◌, ℕ, ◌+◌, Bool, true, false, not, ◌&&◌, if◌then◌else◌, nat_lt, nat_le, List}
 use Rattle.std.specs.Prelude.{[], ◌∷◌, ◌++◌, map, length, Option, Some, None, unwrap_or, slice_get, All, Result, OnOk}
 use Rattle.std.specs.List.{list_all}
 use Rattle.pres_ast.specs.PredModel.{PredModel}
@@ -9,9 +9,11 @@ use Rattle.cert_base.specs.declared.fact.Fact.{Fact}
 use Rattle.cert_base.specs.declared.fact.Fact.TheVariants.{Holds}
 use Rattle.cert_base.specs.declared.node.Node.{Node}
 use Rattle.cert_base.specs.declared.node.Node.TheVariants.{Linear, Residue, Split, Present, Twin, Trap, Siphon, Open}
+use Rattle.cert_base.specs.declared.node.Node.TheVariants.{First}
 use Rattle.cert_base.specs.Rows.{variable_count}
-use Rattle.cert_base.specs.FactsAndCases.{base_list, goal_list, can_meet_in}
-use Rattle.cert_base.specs.Closes.{name_below, refutes, cases_for, ClosesFor, Closes}
+use Rattle.cert_base.specs.FactsAndCases.{base_list, goal_list, can_meet_in, cases_of_first, before_entry}
+use Rattle.cert_base.specs.FactsAndCases.{cases_of_entry}
+use Rattle.cert_base.specs.Closes.{name_below, refutes, cases_for, still, ClosesFor, Closes}
 use Rattle.cert_base.specs.Ends.{EndsRight}
 use Rattle.cert_base.specs.GoalEnds.{EndsInside}
 use Rattle.cert_tree.specs.Format.{IsWithinFormat}
@@ -32,6 +34,7 @@ names_in_range leaf facts (Twin p) = nat_lt p (length leaf.states)
 names_in_range leaf facts (Trap set) = list_all (λ q. nat_lt q (length leaf.states)) set
 names_in_range leaf facts (Siphon set) = list_all (λ q. nat_lt q (length leaf.states)) set
 names_in_range leaf facts (Open f) = nat_lt f (length facts)
+names_in_range leaf facts (First set) = list_all (λ q. nat_lt q (length leaf.states)) set
 
 -- a `Twin` names a state that can meet itself, in the leaf that is dead at the end
 abbrev pub has_twin : LeafModel → Node → Bool
@@ -53,13 +56,33 @@ refutes_facts facts (Linear terms) = refutes facts (Linear terms)
 refutes_facts facts (Residue m terms) = refutes facts (Residue m terms)
 refutes_facts facts _ = true
 
--- the cases of a node, one after the other; none at a node that refutes
+-- the cases of the end at a node that speaks of crowds before it too
+abbrev pub end_cases : LeafModel → Node → List (List Fact)
+end_cases leaf (First set) = cases_of_first leaf set
+end_cases leaf _ = []
+
+-- the cases of a node that speak of the end, one after the other; none at a node that refutes
 abbrev pub cases_at : (leaf dead : LeafModel) → List Fact → Node → List (List Fact)
-cases_at leaf dead facts node = unwrap_or (cases_for leaf dead facts node) []
+cases_at leaf dead facts node = unwrap_or (cases_for leaf dead facts node) (end_cases leaf node)
+
+-- the cases of a node that speak of a crowd before the end
+abbrev pub entries : LeafModel → Node → List (List Fact)
+entries leaf (First set) = cases_of_entry leaf set
+entries leaf _ = []
+
+-- what is known of that crowd, given the facts of the end
+abbrev pub facts_before : LeafModel → List Fact → Node → List Fact
+facts_before leaf facts (First set) = before_entry leaf set facts
+facts_before leaf facts _ = []
 
 -- whether the facts with those of each case are few enough
 abbrev pub all_fit : List Fact → List (List Fact) → Bool
 all_fit facts = list_all (λ own. nat_le (length facts + length own) FACT_LIMIT)
+
+-- whether those of all cases of a node are
+abbrev pub have_room : (leaf dead : LeafModel) → List Fact → Node → Bool
+have_room leaf dead facts node =
+    all_fit facts (cases_at leaf dead facts node) && all_fit (facts_before leaf facts node) (entries leaf node)
 
 -- why a node is refused by its numbers, its move, its fact or its test
 abbrev pub own_refusal : (leaf dead : LeafModel) → List Fact → Node → Option TreeWhy
@@ -79,16 +102,32 @@ or_else (Some why) other = Some why
 abbrev pub refusal : (leaf dead : LeafModel) → ℕ → List Fact → Node → Option TreeWhy
 refusal leaf dead above facts node =
     if not (nat_lt above PATH_LIMIT) then Some TooDeep
-    else or_else (own_refusal leaf dead facts node) (if all_fit facts (cases_at leaf dead facts node) then None
-    else Some TooManyFacts)
+    else or_else (own_refusal leaf dead facts node) (if have_room leaf dead facts node then None else Some TooManyFacts)
 
--- a case that waits for its nodes: how many nodes are above it, and its facts
-abbrev pub Waiting : Type 0
-Waiting = ℕ × List Fact
+-- a case that waits for its nodes: how many nodes are above it, whether it speaks of a crowd before an entry, which
+-- need not be terminal, and its facts
+pub record Waiting : Type 0 where
+  pub above : ℕ
+  pub is_still : Bool
+  pub facts : List Fact
 
--- the cases of a node, each with one more node above it, and with its own facts at the end
+abbrev pub waits : ℕ → Bool → List Fact → Waiting
+waits above is_still facts = record { above = above; is_still = is_still; facts = facts }
+
+-- what is dead at the crowd of which a case speaks
+abbrev pub dead_at : (leaf dead : LeafModel) → Bool → LeafModel
+dead_at leaf dead is_still = if is_still then still leaf else dead
+
+-- cases with this many nodes above them, each with its own facts after these
+abbrev pub cases_under : ℕ → Bool → List Fact → List (List Fact) → List Waiting
+cases_under above is_still facts cases = map (λ own. waits above is_still (facts ++ own)) cases
+
+-- the cases of a node, each with one more node above it: first those of entries
 abbrev pub cases_below : (leaf dead : LeafModel) → Waiting → Node → List Waiting
-cases_below leaf dead at node = map (λ own. (at.0 + 1, at.1 ++ own)) (cases_at leaf dead at.1 node)
+cases_below leaf dead at node =
+    cases_under (at.above + 1) true (facts_before leaf at.facts node) (entries leaf node)
+    ++ cases_under (at.above + 1) at.is_still at.facts
+    (cases_at leaf (dead_at leaf dead at.is_still) at.facts node)
 
 abbrev pub go_on : Option TreeWhy → ℕ → Option (ℕ × TreeWhy) → Option (ℕ × TreeWhy)
 go_on None number later = later
@@ -100,12 +139,12 @@ first_from leaf dead [] number [] = None
 first_from leaf dead [] number (node ∷ nodes) = Some (number, Rest)
 first_from leaf dead (at ∷ waiting) number [] = Some (number, Missing)
 first_from leaf dead (at ∷ waiting) number (node ∷ nodes) =
-    go_on (refusal leaf dead at.0 at.1 node) number (first_from leaf dead (cases_below leaf dead at node
-    ++ waiting) (number + 1) nodes)
+    go_on (refusal leaf (dead_at leaf dead at.is_still) at.above at.facts node) number
+    (first_from leaf dead (cases_below leaf dead at node ++ waiting) (number + 1) nodes)
 
 -- the same from the beginning of a tree, where these facts wait
 abbrev pub first_for : (leaf dead : LeafModel) → List Fact → List Node → Option (ℕ × TreeWhy)
-first_for leaf dead facts nodes = first_from leaf dead ((0, facts) ∷ []) 0 nodes
+first_for leaf dead facts nodes = first_from leaf dead (waits 0 false facts ∷ []) 0 nodes
 
 abbrev pub first_refused : LeafModel → PredModel → Bool → List Node → Option (ℕ × TreeWhy)
 first_refused leaf p value nodes = first_for leaf leaf (base_list leaf p value) nodes

@@ -6,6 +6,9 @@
 mod fault;
 mod law;
 mod nodes;
+mod room;
+mod size;
+mod stack;
 mod tree;
 mod walk;
 

@@ -5,23 +5,24 @@ ghost use Rattle.std.specs.List.{list_all};
 ghost use Rattle.pop_net.specs.LeafModel.{LeafModel};
 ghost use Rattle.cert_base.specs.declared.fact.Fact.{Fact};
 ghost use Rattle.cert_base.specs.declared.node.Node.TheVariants.{Linear, Residue, Split, Present, Twin, Trap, Siphon};
-ghost use Rattle.cert_base.specs.declared.node.Node.TheVariants.{Open};
+ghost use Rattle.cert_base.specs.declared.node.Node.TheVariants.{Open, First};
 ghost use Rattle.cert_base.specs.Closes.{name_below};
 ghost use Rattle.cert_base.specs.Ends.{HaveSamePlaces};
 ghost use Rattle.cert_linear.specs.Conditions.{IsOrdered, AreMultipliers};
 ghost use Rattle.cert_tree.specs.Format.{IsWithinFormat};
 ghost use Rattle.cert_tree.specs.Refusals.{own_refusal};
-ghost use Rattle.cert_tree.specs.Frames.{IsPassed, HaltsBy};
+ghost use Rattle.cert_tree.specs.Rooms.{IsPassed, HaltsBy};
 
 use crate::fault::TreeWhy;
 use cert_base::{Fact, Node, Row, SIZE_LIMIT, Term, count_variables, open_cases, split_cases};
 use cert_linear::Trail;
-use cert_traps::{present_cases, siphon_cases, trap_cases, twin_case};
+use cert_traps::{first_cases, present_cases, siphon_cases, trap_cases, twin_case};
 use pop_io::{Failure, List};
 use pop_net::Leaf;
 use std::alloc::Global;
 
-/// The cases of a node, in order; none at a node that refutes the facts. `dead` is the leaf that has no step at the end.
+/// The cases of a node that speak of the end, in order; none at a node that refutes the facts. `dead` is the leaf that
+/// has no step there.
 pub(crate) fn node_cases(
     alloc: Global,
     leaf: &Leaf,
@@ -45,6 +46,7 @@ pub(crate) fn node_cases(
         Node::Trap(set) => trap_node(alloc, leaf, set),
         Node::Siphon(set) => siphon_node(alloc, leaf, set),
         Node::Open(number) => open_node(alloc, trail, *number),
+        Node::First(set) => first_node(alloc, leaf, set),
     }
 }
 
@@ -170,6 +172,21 @@ fn siphon_node(
         return Err(Failure::Fault(TreeWhy::BadIndex));
     }
     Ok(siphon_cases(alloc, leaf, set)?)
+}
+
+fn first_node(
+    alloc: Global,
+    leaf: &Leaf,
+    set: &List<u16>,
+) -> Result<List<List<Fact>>, Failure<TreeWhy>>
+    ensures passed { (dead : LeafModel) (facts : List Fact) → IfOk result (IsPassed leaf.now dead facts (First set.now)) }
+    ensures halts { (dead : LeafModel) (facts : List Fact)
+        → IfErr result (HaltsBy (own_refusal leaf.now dead facts (First set.now))) }
+{
+    if !name_states(set.as_slice(), leaf.state_count()) {
+        return Err(Failure::Fault(TreeWhy::BadIndex));
+    }
+    Ok(first_cases(alloc, leaf, set)?)
 }
 
 fn open_node(

@@ -5,11 +5,13 @@ ghost use Rattle.cert_base.specs.declared.limits.TheConstants.{NODE_LIMIT, SET_L
 ghost use Rattle.cert_base.specs.Ends.{HaveSamePlaces};
 ghost use Rattle.cert_tree.specs.Format.{IsWithinFormat};
 ghost use Rattle.cert_tree.specs.Refusals.{AreNodesOf, ChecksTree, ChecksGoalTree};
-ghost use Rattle.cert_tree.specs.Frames.{IsFit, WalksNodes, fault_at};
+ghost use Rattle.cert_tree.specs.Frames.{IsFit};
+ghost use Rattle.cert_tree.specs.Walks.{WalksNodes, fault_at};
 
 use crate::fault::{TreeFault, TreeWhy};
 use crate::walk::Walk;
 use cert_base::{Fact, Node, base_facts, goal_facts};
+use pop_hushed::hushed_leaf;
 use pop_io::{Failure, List};
 use pop_net::Leaf;
 use pres_ast::Pred;
@@ -27,8 +29,9 @@ pub fn check_tree(
     requires { AreNodesOf leaf.now pred.now nodes.now }
     ensures { ChecksTree leaf.now pred.now value nodes.now result }
 {
-    // What the invariant says is known from here on.
+    // What the invariants say is known from here on.
     let _formed = leaf.state_count();
+    let _limits = pred.vars();
     let facts = base_facts(alloc, leaf, pred, value)?;
     walk_nodes(alloc, leaf, leaf, facts, nodes)
 }
@@ -49,13 +52,14 @@ pub fn check_goal_tree(
     requires places { HaveSamePlaces leaf.now dead.now }
     ensures { ChecksGoalTree leaf.now dead.now pred.now value sets.now nodes.now result }
 {
-    // What the invariant says is known from here on.
+    // What the invariants say is known from here on.
     let _formed = leaf.state_count();
+    let _limits = pred.vars();
     let facts = goal_facts(alloc, leaf, pred, value, sets)?;
     walk_nodes(alloc, leaf, dead, facts, nodes)
 }
 
-/// The nodes are walked in order, over one trail of facts.
+/// The nodes are walked in order.
 fn walk_nodes(
     alloc: Global,
     leaf: &Leaf,
@@ -69,9 +73,10 @@ fn walk_nodes(
     requires within { All IsWithinFormat nodes.now }
     ensures { WalksNodes leaf.now dead.now facts nodes.now result }
 {
+    let stopped = hushed_leaf(alloc, leaf, &[])?;
     let mut walk = Walk::new(alloc, facts)?;
     for (number, node) in nodes.as_slice().iter().enumerate() {
-        if let Err(halt) = walk.visit(alloc, leaf, dead, node) {
+        if let Err(halt) = walk.visit(alloc, leaf, dead, &stopped, node) {
             return Err(at_node(halt, number as u32));
         }
     }

@@ -1,55 +1,48 @@
 //! Where a walk over the nodes of a tree stands.
 
-ghost use Rattle.std.specs.Prelude.{◌≡◌, ◌≤◌, ◌<◌, ◌∷◌, [], true, length, reverse, All, IfOk, IfErr};
-ghost use Rattle.std.specs.Prelude.{OnOk, MatchOption, nat_le};
-ghost use Rattle.std.specs.List.{list_all};
-ghost use Rattle.cert_base.specs.declared.fact.Fact.{Fact};
+ghost use Rattle.std.specs.Prelude.{◌≡◌, ◌≤◌, ◌+◌, ◌∷◌, [], ◌++◌, false, reverse, All, IfOk, IfErr, OnOk};
+ghost use Rattle.cert_base.specs.declared.node.Node.TheVariants.{First};
+ghost use Rattle.cert_base.specs.Closes.{still};
 ghost use Rattle.cert_base.specs.Ends.{HaveSamePlaces};
+ghost use Rattle.cert_linear.specs.Conditions.{IsOrdered};
 ghost use Rattle.cert_tree.specs.Format.{IsWithinFormat};
-ghost use Rattle.cert_tree.specs.Refusals.{all_fit};
-ghost use Rattle.cert_tree.specs.Frames.{waiting, waiting_with, AreNested, IsNested, IsFit, FindsCase, IsLatest};
-ghost use Rattle.cert_tree.specs.Frames.{GoesOn, HaltsAt, StillCover};
+ghost use Rattle.cert_tree.specs.Refusals.{waits};
+ghost use Rattle.cert_tree.specs.Frames.{IsFit};
+ghost use Rattle.cert_tree.specs.Rooms.{waiting_in, depth_in, IsSoundIn};
+ghost use Rattle.cert_tree.specs.Walks.{waiting, waiting_outside, AreSound, IsSound, FindsPlace, HasEntered};
+ghost use Rattle.cert_tree.specs.Walks.{IsRefusedBefore, GoesOn, HaltsAt};
 
 use crate::fault::TreeWhy;
-use crate::nodes::node_cases;
-use cert_base::{FACT_LIMIT, Fact, Node, PATH_LIMIT};
-use cert_linear::Trail;
+use crate::room::Room;
+use crate::size::has_room;
+use cert_base::{Fact, Node, PATH_LIMIT};
+use cert_traps::{entry_cases, facts_before_entry};
 use pop_io::{Failure, List, NoMemory};
 use pop_net::Leaf;
 use std::alloc::Global;
+use std::mem;
 
-/// A node whose cases are being closed.
-#[derive(Drop)]
-pub(crate) struct Frame {
-    /// The number of facts at the node.
-    len: u32,
-    /// The cases that wait, in order.
-    cases: Vec<List<Fact>>,
-}
-
-/// The facts at which a walk stands, and the nodes above it, each with the cases that wait.
+/// The cases that wait: first those of one room, then those of the rooms that it was entered from, the latest last.
 #[derive(Drop)]
 pub(crate) struct Walk {
-    trail: Trail,
-    frames: Vec<Frame>,
+    room: Room,
+    outside: Vec<Room>,
 }
 
 impl Walk {
     /// The walk at the beginning: one case waits, with these facts and no node above it.
     pub(crate) fn new(alloc: Global, facts: List<Fact>) -> Result<Walk, NoMemory>
-        requires { length facts ≤ FACT_LIMIT }
-        ensures waits { IfOk result (λ walk. waiting walk ≡ (0, facts) ∷ []) }
-        ensures nested { IfOk result IsNested }
+        requires { IsFit (0, facts) }
+        ensures waits { IfOk result (λ walk. waiting walk ≡ waits 0 false facts ∷ []) }
+        ensures sound { IfOk result IsSound }
     {
-        let trail = Trail::new(alloc, facts);
         let mut cases = Vec::new(alloc);
         cases.push(List::from_vec(Vec::new(alloc)))?;
-        let mut frames = Vec::new(alloc);
-        frames.push(Frame {
-            len: trail.len(),
-            cases,
-        })?;
-        Ok(Walk { trail, frames })
+        let room = Room::new(alloc, 0, false, facts, List::from_vec(cases))?;
+        Ok(Walk {
+            room,
+            outside: Vec::new(alloc),
+        })
     }
 
     /// Passes the next node, if it isn't refused.
@@ -58,86 +51,102 @@ impl Walk {
         alloc: Global,
         leaf: &Leaf,
         dead: &Leaf,
+        stopped: &Leaf,
         node: &Node,
     ) -> Result<(), Failure<TreeWhy>>
         requires places { HaveSamePlaces leaf.now dead.now }
+        requires stopped { stopped.now ≡ still leaf.now }
         requires within { IsWithinFormat node.now }
-        requires nested { IsNested self.old }
-        requires fit { All IsFit (waiting self.old) }
+        requires sound { IsSound self.old }
         ensures goes_on { OnOk result (GoesOn leaf.now dead.now (waiting self.old) node.now (waiting self.new)) }
-        ensures nested { OnOk result (IsNested self.new) }
-        ensures fit { OnOk result (All IsFit (waiting self.new)) }
-        ensures cover { OnOk result (StillCover leaf.now dead.now (waiting self.old) (waiting self.new)) }
+        ensures sound { OnOk result (IsSound self.new) }
         ensures halts { IfErr result (HaltsAt leaf.now dead.now (waiting self.old) node.now) }
     {
         if !self.next_case()? {
             return Err(Failure::Fault(TreeWhy::Rest));
         }
-        if self.frames.len() > PATH_LIMIT {
-            return Err(Failure::Fault(TreeWhy::TooDeep));
+        self.room.pass(alloc, leaf, dead, stopped, node)?;
+        self.enter_before(alloc, leaf, node)
+    }
+
+    /// Enters a room for the cases of a node that speak of a crowd before the end, if there are any.
+    fn enter_before(
+        &mut self,
+        alloc: Global,
+        leaf: &Leaf,
+        node: &Node,
+    ) -> Result<(), Failure<TreeWhy>>
+        requires sound { IsSound self.old }
+        requires above { 1 ≤ depth_in self.old.room }
+        requires low { depth_in self.old.room ≤ PATH_LIMIT + 1 }
+        requires ordered { All IsOrdered self.old.room.stack.trail }
+        ensures entered { OnOk result (HasEntered leaf.now self.old node.now self.new) }
+        ensures sound { OnOk result (IsSound self.new) }
+        ensures halts { IfErr result (IsRefusedBefore leaf.now self.old node.now) }
+    {
+        match node {
+            Node::First(set) => self.enter(alloc, leaf, set),
+            _ => Ok(()),
         }
-        let cases = node_cases(alloc, leaf, dead, &mut self.trail, node)?;
-        if !has_room(&self.trail, cases.as_slice()) {
+    }
+
+    /// Enters a room for the cases of entries of the set, if there are any.
+    fn enter(&mut self, alloc: Global, leaf: &Leaf, set: &List<u16>) -> Result<(), Failure<TreeWhy>>
+        requires sound { IsSound self.old }
+        requires above { 1 ≤ depth_in self.old.room }
+        requires low { depth_in self.old.room ≤ PATH_LIMIT + 1 }
+        requires ordered { All IsOrdered self.old.room.stack.trail }
+        ensures entered { OnOk result (HasEntered leaf.now self.old (First set.now) self.new) }
+        ensures sound { OnOk result (IsSound self.new) }
+        ensures halts { IfErr result (IsRefusedBefore leaf.now self.old (First set.now)) }
+    {
+        let cases = entry_cases(alloc, leaf, set)?;
+        if cases.as_slice().is_empty() {
+            return Ok(());
+        }
+        let facts = facts_before_entry(alloc, leaf, set, self.room.stack.trail.as_slice())?;
+        if !has_room(facts.as_slice(), cases.as_slice()) {
             return Err(Failure::Fault(TreeWhy::TooManyFacts));
         }
-        self.frames.push(Frame {
-            len: self.trail.len(),
-            cases: cases.into_vec(),
-        })?;
+        let room = Room::new(alloc, self.room.depth() - 1, true, facts, cases)?;
+        self.go_into(room)?;
+        Ok(())
+    }
+
+    /// Goes into another room, and comes back when nothing waits there.
+    fn go_into(&mut self, room: Room) -> Result<(), NoMemory>
+        requires sound { IsSound self.old }
+        requires inside { IsSoundIn room }
+        ensures waits { OnOk result (waiting self.new ≡ waiting_in room ++ waiting self.old) }
+        ensures sound { OnOk result (IsSound self.new) }
+    {
+        let outer = mem::replace(&mut self.room, room);
+        self.outside.push(outer)?;
         Ok(())
     }
 
     /// Goes to the next case that waits, if there is one.
     pub(crate) fn next_case(&mut self) -> Result<bool, NoMemory>
-        requires nested { IsNested self.old }
-        requires fit { All IsFit (waiting self.old) }
-        ensures { IfOk result (FindsCase (waiting self.old) self.new) }
+        requires { IsSound self.old }
+        ensures { IfOk result (FindsPlace (waiting self.old) self.new) }
     {
-        let Some(frame) = self.next_frame() else {
-            return Ok(false);
-        };
-        self.enter_case(frame)?;
-        Ok(true)
+        if self.room.stack.next_case()? {
+            return Ok(true);
+        }
+        self.leave_rooms()
     }
 
-    /// Goes to the first case of the latest node.
-    fn enter_case(&mut self, frame: Frame) -> Result<(), NoMemory>
-        requires some_case { 0 < length frame.cases.items }
-        requires within { frame.len ≤ length self.old.trail }
-        requires nested { AreNested frame.len (reverse self.old.frames.items) }
-        requires fit { All IsFit (waiting_with self.old frame) }
-        ensures { OnOk result (FindsCase (waiting_with self.old frame) self.new true) }
+    /// Goes to the next case of the rooms outside.
+    fn leave_rooms(&mut self) -> Result<bool, NoMemory>
+        requires { AreSound (reverse self.old.outside.items) }
+        ensures { IfOk result (FindsPlace (waiting_outside self.old) self.new) }
     {
-        let Frame { len, mut cases } = frame;
-        self.trail.cut(len);
-        let own = cases.remove(0);
-        self.frames.push(Frame { len, cases })?;
-        self.trail.append(own)
-    }
-
-    /// Takes the frames from the latest node with a case that waits.
-    fn next_frame(&mut self) -> Option<Frame>
-        requires { IsNested self.old }
-        ensures { MatchOption result (waiting self.old ≡ []) (IsLatest (waiting self.old) self.new) }
-    {
-        while let Some(frame) = self.frames.pop() {
-            if !frame.cases.is_empty() {
-                return Some(frame);
+        while let Some(room) = self.outside.pop() {
+            self.room = room;
+            if self.room.stack.next_case()? {
+                return Ok(true);
             }
         }
-        None
+        Ok(false)
     }
-}
-
-/// Whether the trail with the facts of each case is short enough.
-pub(crate) fn has_room(trail: &Trail, cases: &[List<Fact>]) -> bool
-    ensures { result ≡ all_fit trail.now cases.now }
-{
-    are_short(cases, FACT_LIMIT - trail.len() as usize)
-}
-
-fn are_short(cases: &[List<Fact>], len: usize) -> bool
-    ensures { result ≡ list_all (λ own. nat_le (length own) len) cases.now }
-{
-    cases.iter().all(|own| own.as_slice().len() <= len)
 }

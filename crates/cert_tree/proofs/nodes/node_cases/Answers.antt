@@ -47,3 +47,9 @@ returns-in-Siphon-clause-passed c = rw c.in-Siphon.is (c.siphon_node.ensures.pas
 
 pub returns-in-Siphon-clause-halts : goal.returns-in-Siphon-clause-halts
 returns-in-Siphon-clause-halts c = rw c.in-Siphon.is (c.siphon_node.ensures.halts c.args.dead.now c.args.trail.now)
+
+pub returns-in-First-clause-passed : goal.returns-in-First-clause-passed
+returns-in-First-clause-passed c = rw c.in-First.is (c.first_node.ensures.passed c.args.dead.now c.args.trail.now)
+
+pub returns-in-First-clause-halts : goal.returns-in-First-clause-halts
+returns-in-First-clause-halts c = rw c.in-First.is (c.first_node.ensures.halts c.args.dead.now c.args.trail.now)

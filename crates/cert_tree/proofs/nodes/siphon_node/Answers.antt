@@ -5,4 +5,4 @@ use Rattle.cert_tree.proofs.nodes.siphon_node.Goals as goal
 pub returns-clause-passed : goal.returns-clause-passed
 returns-clause-passed c =
     let named = rw (c.state_count.ensures.count, c.as_slice.ensures) at (sym c.name_states.ensures ∙ c.if-not-name_states.false) in
-    siphon_passed c.args.leaf.now c.args.set.now c.in_ok-siphon_cases.field-0 named c.in_ok-siphon_cases.ensures.cases c.in_ok-siphon_cases.ensures.cover
+    siphon_passed c.args.leaf.now c.args.set.now c.in_ok-siphon_cases.field-0 named c.in_ok-siphon_cases.ensures.cases

@@ -5,4 +5,4 @@ use Rattle.cert_tree.proofs.nodes.trap_node.Goals as goal
 pub returns-clause-passed : goal.returns-clause-passed
 returns-clause-passed c =
     let named = rw (c.state_count.ensures.count, c.as_slice.ensures) at (sym c.name_states.ensures ∙ c.if-not-name_states.false) in
-    trap_passed c.args.leaf.now c.args.set.now c.in_ok-trap_cases.field-0 named c.in_ok-trap_cases.ensures.cases c.in_ok-trap_cases.ensures.cover
+    trap_passed c.args.leaf.now c.args.set.now c.in_ok-trap_cases.field-0 named c.in_ok-trap_cases.ensures.cases

@@ -12,4 +12,4 @@ walk_nodes-requires-clause-fit c =
 
 pub returns : goal.returns
 returns c =
-    goal_tree_checked c.args.leaf.now c.args.dead.now c.args.pred.now c.args.value c.args.sets.now c.args.nodes.now c.in_ok-facts.facts c.walk_nodes.result c.in_ok-facts.ensures.facts c.in_ok-facts.ensures.met c.walk_nodes.ensures
+    goal_tree_checked c.args.leaf.now c.args.dead.now c.args.pred.now c.args.value c.args.sets.now c.args.nodes.now c.in_ok-facts.facts c.walk_nodes.result c.state_count-formed.ensures.formed c.requires.places c.vars-limits.ensures.limits.atoms c.in_ok-facts.ensures.facts c.in_ok-facts.ensures.met c.walk_nodes.ensures

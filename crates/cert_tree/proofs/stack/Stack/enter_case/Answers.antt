@@ -1,7 +1,7 @@
 use Rattle.std.proofs.Common.{refl}
 use Rattle.std.specs.Prelude.{remove}
 use Rattle.cert_tree.proofs.Stacks.{first_and_rest, entered_when, room_for}
-use Rattle.cert_tree.proofs.walk.Walk.enter_case.Goals as goal
+use Rattle.cert_tree.proofs.stack.Stack.enter_case.Goals as goal
 
 pub append-requires : goal.append-requires
 append-requires c =

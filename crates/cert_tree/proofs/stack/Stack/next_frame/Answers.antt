@@ -1,7 +1,7 @@
 use Rattle.std.proofs.Common.{◌≡◌, ◌∙◌, sym, length, vec_len, rules}
 use Rattle.std.proofs.lemmas.Bool.{eqb-true}
 use Rattle.cert_tree.proofs.Stacks.{nested_more, popped_empty, popped_nested}
-use Rattle.cert_tree.proofs.walk.Walk.next_frame.Goals as goal
+use Rattle.cert_tree.proofs.stack.Stack.next_frame.Goals as goal
 
 pub loop-frame-preserved : goal.loop-frame-preserved
 loop-frame-preserved c =

@@ -1,11 +1,11 @@
 use Rattle.std.proofs.Common.{◌≡◌, vec_len}
-use Rattle.cert_tree.specs.Frames.{waiting, IsNested}
-use Rattle.cert_tree.proofs.walk.Walk.next_frame.Given as goal
+use Rattle.cert_tree.specs.Frames.{stacked, IsNested}
+use Rattle.cert_tree.proofs.stack.Stack.next_frame.Given as goal
 
 abbrev pub invariant-loop-frame : goal.invariant-loop-frame
 invariant-loop-frame l = record {
   trail : l.initial.self.trail ≡ l.self.trail;
-  waits : waiting l.initial.self ≡ waiting l.self;
+  waits : stacked l.initial.self ≡ stacked l.self;
   nested : IsNested l.self;
 }
 
