@@ -18,7 +18,7 @@ use Rattle.cert_base.specs.declared.fact.Fact.{Fact}
 use Rattle.cert_base.specs.declared.fact.Fact.TheVariants.{Ge, Eq}
 use Rattle.cert_base.specs.Rows.{input_row}
 use Rattle.cert_base.specs.Valuation.{Valuation, MeetsFact, is_by, times_taken, IsOfExecution}
-use Rattle.cert_base.specs.FactsAndCases.{indicator, states_of, is_in, takes_from, puts_into, helpers_among, no_moves, some_taken_fact, count_row, cases_of_siphon}
+use Rattle.cert_base.specs.FactsAndCases.{indicator, states_of, is_in, takes_from, puts_into, enters, helpers_among, no_moves, some_taken_fact, count_row, cases_of_siphon}
 use Rattle.cert_base.specs.Ends.{MeetsOne}
 use Rattle.cert_base.proofs.Dead.{number_in-cons}
 use Rattle.cert_base.proofs.Numbers.{number_in}
@@ -32,10 +32,6 @@ use Rattle.cert_traps.proofs.TrapEnds.{takes_none, bit}
 -- no agent is in a state of the set
 abbrev pub NoneInside : List ℕ → List ℕ → Type 0
 NoneInside set crowd = All (λ q. is_in set q ≡ false) crowd
-
--- a move that puts into the set and takes nothing from it
-abbrev pub enters_set : List ℕ → Move → Bool
-enters_set set t = puts_into set t && not (takes_from set t)
 
 pub takes_by : (set : List ℕ) (t : Move) (x y x' y' : ℕ) → Follows t x y x' y' ⊎ Follows t y x y' x' → is_in set x ≡ false → is_in set y ≡ false → takes_from set t ≡ false
 takes_by set t x y x' y' (inl f) e g = or_from _ _ (ap (is_in set) (sym f.0) ∙ e) (ap (is_in set) (sym f.1) ∙ g)
@@ -59,16 +55,16 @@ module _ (leaf : LeafModel) (set : List ℕ) (before after : List ℕ) (s : Leaf
       (All-set (λ (q : ℕ). is_in set q ≡ false) (slice_set before s.a s.x') s.b s.y' e.1 (All-set (λ (q : ℕ). is_in set q ≡ false) before s.a s.x' e.0 none))
 
   -- a step from outside the set takes nothing from it, and stays outside unless it enters
-  step_on : (c : LeafChange leaf s.x s.y s.x' s.y') → ((n : ℕ) (t : Move) → slice_get leaf.moves n ≡ Some t → enters_set set t ≡ true → is_by n c ≡ 0) → NoneInside set after × ((n : ℕ) (t : Move) → slice_get leaf.moves n ≡ Some t → takes_from set t ≡ true → is_by n c ≡ 0)
+  step_on : (c : LeafChange leaf s.x s.y s.x' s.y') → ((n : ℕ) (t : Move) → slice_get leaf.moves n ≡ Some t → enters set t ≡ true → is_by n c ≡ 0) → NoneInside set after × ((n : ℕ) (t : Move) → slice_get leaf.moves n ≡ Some t → takes_from set t ≡ true → is_by n c ≡ 0)
   step_on (inl stay) enters = (nobody_after (ap (is_in set) stay.0 ∙ x_outside, ap (is_in set) stay.1 ∙ y_outside), λ n t h e. refl)
   step_on (inr m) enters =
       let takes = takes_by set m.taken s.x s.y s.x' s.y' m.followed x_outside y_outside in
-      let stays = taken_fails leaf (enters_set set) m.number m.taken m.listed enters in
+      let stays = taken_fails leaf (enters set) m.number m.taken m.listed enters in
       let puts = takes_none (puts_into set m.taken) (takes_from set m.taken) stays takes in
       (nobody_after (both_outside set m.taken s.x s.y s.x' s.y' m.followed puts), others_untaken leaf (takes_from set) m.number m.taken m.listed takes)
 
 -- the same over a whole path
-way_on : (leaf : LeafModel) (set : List ℕ) (start : List ℕ) (path : List (List ℕ)) (end : List ℕ) (way : Leads (LeafStep leaf) start path end) → NoneInside set start → ((n : ℕ) (t : Move) → slice_get leaf.moves n ≡ Some t → enters_set set t ≡ true → times_taken leaf n start path end way ≡ 0) → NoneInside set end × ((n : ℕ) (t : Move) → slice_get leaf.moves n ≡ Some t → takes_from set t ≡ true → times_taken leaf n start path end way ≡ 0)
+way_on : (leaf : LeafModel) (set : List ℕ) (start : List ℕ) (path : List (List ℕ)) (end : List ℕ) (way : Leads (LeafStep leaf) start path end) → NoneInside set start → ((n : ℕ) (t : Move) → slice_get leaf.moves n ≡ Some t → enters set t ≡ true → times_taken leaf n start path end way ≡ 0) → NoneInside set end × ((n : ℕ) (t : Move) → slice_get leaf.moves n ≡ Some t → takes_from set t ≡ true → times_taken leaf n start path end way ≡ 0)
 way_on leaf set start [] end way none enters = (subst (λ (c : List ℕ). NoneInside set c) (sym way) none, λ n t h e. refl)
 way_on leaf set start (next ∷ path) end way none enters =
     let first = step_on leaf set start next way.0 none way.0.change (λ n t h e. (sum_zero (is_by n way.0.change) (times_taken leaf n next path end way.1) (enters n t h e)).0) in
@@ -116,9 +112,9 @@ module _ (leaf : LeafModel) (set : List ℕ) (count : Valuation) (counts : List 
   places = length leaf.inputs + length leaf.states
 
   -- if no move entered the set, no such move was taken
-  not_entered : sum_if count (enters_set set) places leaf.moves ≡ 0 → (n : ℕ) (t : Move) → slice_get leaf.moves n ≡ Some t → enters_set set t ≡ true → times_taken leaf n (leaf_input_crowd leaf counts) path end way ≡ 0
+  not_entered : sum_if count (enters set) places leaf.moves ≡ 0 → (n : ℕ) (t : Move) → slice_get leaf.moves n ≡ Some t → enters set t ≡ true → times_taken leaf n (leaf_input_crowd leaf counts) path end way ≡ 0
   not_entered e n t h l =
-      sym (is.moves n (slice_get_within leaf.moves n t h)) ∙ sum_if-none count (enters_set set) places leaf.moves e n t h l
+      sym (is.moves n (slice_get_within leaf.moves n t h)) ∙ sum_if-none count (enters set) places leaf.moves e n t h l
 
   -- if no input of the set is counted, no agent of an input starts in it
   given_outside : sum_if count (is_in set) 0 leaf.inputs ≡ 0 → NoneInside set (starts_from (λ variable. slice_index leaf.inputs variable) 0 counts)
@@ -153,7 +149,7 @@ module _ (leaf : LeafModel) (set : List ℕ) (count : Valuation) (counts : List 
       omega (arith, ints, row, zero_sum)
 
   abbrev first_case : List Fact
-  first_case = some_taken_fact leaf (enters_set set) ∷ []
+  first_case = some_taken_fact leaf (enters set) ∷ []
 
   abbrev pub second_case : List Fact
   second_case = Ge (input_row (map (λ start. indicator (is_in set start)) leaf.inputs) (pos (helpers_among leaf set) -ℤ pos 1)) ∷ []
@@ -173,7 +169,7 @@ module _ (leaf : LeafModel) (set : List ℕ) (count : Valuation) (counts : List 
       All-append (MeetsFact count) (no_moves leaf test) (Eq (count_row leaf set (pos 0)) ∷ []) (untaken_met leaf count test (λ n. times_taken leaf n (leaf_input_crowd leaf counts) path end way) is.moves untaken)
       (All-cons (MeetsFact count) (Eq (count_row leaf set (pos 0))) [] (empty_met none) (All-nil (MeetsFact count)))
 
-  third_met : sum_if count (enters_set set) places leaf.moves ≡ 0 → sum_if count (is_in set) 0 leaf.inputs + helpers_among leaf set ≡ 0 → All (MeetsFact count) third_case
+  third_met : sum_if count (enters set) places leaf.moves ≡ 0 → sum_if count (is_in set) 0 leaf.inputs + helpers_among leaf set ≡ 0 → All (MeetsFact count) third_case
   third_met e f =
       let given = sum_zero (sum_if count (is_in set) 0 leaf.inputs) (helpers_among leaf set) f in
       let on = way_on leaf set (leaf_input_crowd leaf counts) path end way (none_at_start given.0 given.1) (not_entered e) in
@@ -181,17 +177,17 @@ module _ (leaf : LeafModel) (set : List ℕ) (count : Valuation) (counts : List 
 
   -- the counts of an execution meet all facts of one of the cases
   pub siphon_met : MeetsOne count (cases_of_siphon leaf set)
-  siphon_met = first (cases_lt 0 (sum_if count (enters_set set) places leaf.moves))
+  siphon_met = first (cases_lt 0 (sum_if count (enters set) places leaf.moves))
     where
-      second : sum_if count (enters_set set) places leaf.moves ≡ 0 → (0 < sum_if count (is_in set) 0 leaf.inputs + helpers_among leaf set) ⊎ (sum_if count (is_in set) 0 leaf.inputs + helpers_among leaf set ≤ 0) → MeetsOne count (cases_of_siphon leaf set)
+      second : sum_if count (enters set) places leaf.moves ≡ 0 → (0 < sum_if count (is_in set) 0 leaf.inputs + helpers_among leaf set) ⊎ (sum_if count (is_in set) 0 leaf.inputs + helpers_among leaf set ≤ 0) → MeetsOne count (cases_of_siphon leaf set)
       second e (inl l) =
           in_rest count first_case (second_case ∷ third_case ∷ []) (in_first count second_case (third_case ∷ []) (second_met l))
       second e (inr l) =
           in_rest count first_case (second_case ∷ third_case ∷ []) (in_rest count second_case (third_case ∷ []) (in_first count third_case [] (third_met e (let f : sum_if count (is_in set) 0 leaf.inputs + helpers_among leaf set ≡ 0 = omega (arith, l) in f))))
 
-      first : (0 < sum_if count (enters_set set) places leaf.moves) ⊎ (sum_if count (enters_set set) places leaf.moves ≤ 0) → MeetsOne count (cases_of_siphon leaf set)
+      first : (0 < sum_if count (enters set) places leaf.moves) ⊎ (sum_if count (enters set) places leaf.moves ≤ 0) → MeetsOne count (cases_of_siphon leaf set)
       first (inl l) =
-          let value = row_value-behind count (enters_set set) places leaf.moves (negsuc 0) in
-          in_first count first_case (second_case ∷ third_case ∷ []) (All-cons (MeetsFact count) (some_taken_fact leaf (enters_set set)) [] (omega (arith, ints, value, l)) (All-nil (MeetsFact count)))
+          let value = row_value-behind count (enters set) places leaf.moves (negsuc 0) in
+          in_first count first_case (second_case ∷ third_case ∷ []) (All-cons (MeetsFact count) (some_taken_fact leaf (enters set)) [] (omega (arith, ints, value, l)) (All-nil (MeetsFact count)))
       first (inr l) =
-          second (let e : sum_if count (enters_set set) places leaf.moves ≡ 0 = omega (arith, l) in e) (cases_lt 0 (sum_if count (is_in set) 0 leaf.inputs + helpers_among leaf set))
+          second (let e : sum_if count (enters set) places leaf.moves ≡ 0 = omega (arith, l) in e) (cases_lt 0 (sum_if count (is_in set) 0 leaf.inputs + helpers_among leaf set))

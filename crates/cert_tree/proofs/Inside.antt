@@ -14,7 +14,7 @@ use Rattle.cert_base.specs.GoalEnds.{IsWithin, IsWithinOne, EndsInside, HasOutsi
 use Rattle.cert_base.proofs.ListTests.{list_any-contains}
 use Rattle.list_laws.proofs.Lists.{has_first, has_later}
 use Rattle.cert_tree.specs.Walks.{NoneMeets}
-use Rattle.cert_tree.proofs.Verdicts.{count_for, execution_has}
+use Rattle.cert_base.proofs.Executions.{count_for, execution_has}
 
 listed : (set : List ℕ) (q : ℕ) → is_in set q ≡ true → Contains set q
 listed set q e =

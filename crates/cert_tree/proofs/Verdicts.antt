@@ -14,6 +14,7 @@ use Rattle.cert_base.specs.declared.fact.Fact.{Fact}
 use Rattle.cert_base.specs.Closes.{ClosesFor}
 use Rattle.cert_base.specs.Valuation.{Valuation, times_taken, IsOfExecution}
 use Rattle.cert_base.specs.Ends.{IsWrongEnd, EndsRight, HoldAtWrongEnds}
+use Rattle.cert_base.proofs.Executions.{count_for, execution_has}
 use Rattle.cert_tree.specs.declared.fault.TreeWhy.TheVariants.{Missing}
 use Rattle.cert_tree.specs.declared.fault.TreeFault.{TreeFault}
 use Rattle.pop_io.specs.declared.failure.Failure.{Failure}
@@ -44,21 +45,6 @@ module _ (leaf dead : LeafModel) (facts : List Fact) (nodes : List Node) where
       let clash : ◌≡◌ {A = Option (ℕ × TreeWhy)} (Some (fault.node, fault.why)) None = sym is ∙ none in
       cc
   only_memory NoMemory is closes = refl
-
--- ---- the counts of an execution
-
-abbrev pub count_for : LeafModel → List ℕ → List ℕ → (ℕ → ℕ) → Valuation
-count_for leaf counts end taken v =
-    if nat_lt v (length leaf.inputs) then slice_index counts v
-    else if nat_lt v (length leaf.inputs + length leaf.states) then count_by (λ x. x == (v - length leaf.inputs)) end
-    else taken (v - (length leaf.inputs + length leaf.states))
-
-pub execution_has : (leaf : LeafModel) (counts : List ℕ) (path : List (List ℕ)) (end : List ℕ) (way : Leads (LeafStep leaf) (leaf_input_crowd leaf counts) path end) → IsOfExecution leaf (count_for leaf counts end (λ t. times_taken leaf t (leaf_input_crowd leaf counts) path end way)) counts path end way
-execution_has leaf counts path end way = record {
-  inputs = λ i l. rw (lt-ltb i (length leaf.inputs) l) refl;
-  states = λ q l. let past = le-ltb (length leaf.inputs + q) (length leaf.inputs) (omega arith) in let here = lt-ltb (length leaf.inputs + q) (length leaf.inputs + length leaf.states) (omega arith) in let number : length leaf.inputs + q - length leaf.inputs ≡ q = omega arith in rw (past, here, number) refl;
-  moves = λ t l. let past = le-ltb (length leaf.inputs + length leaf.states + t) (length leaf.inputs) (omega arith) in let there = le-ltb (length leaf.inputs + length leaf.states + t) (length leaf.inputs + length leaf.states) (omega arith) in let number : length leaf.inputs + length leaf.states + t - (length leaf.inputs + length leaf.states) ≡ t = omega arith in rw (past, there, number) refl;
-}
 
 same_output : (a b : Bool) → (a ≢ b → ⊥) → a ≡ b
 same_output true true h = refl
