@@ -130,12 +130,3 @@ module _ (leaf awake : LeafModel) (set : List ℕ) (n : ℕ) (t : Move) (h : sli
     pub finds_beside : (found : Option ℕ) → FindsFirst (wakes_awake awake set t) found → FindsFirst (wakes_one leaf awake set n) found
     finds_beside None first = λ m. wakes_alike m ∙ first m
     finds_beside (Some u) first = (wakes_alike u ∙ first.0, λ m l. wakes_alike m ∙ first.1 m l)
-
--- the flag of a state says whether it is listed
-pub flag_is : (listed set : List ℕ) (inside : List Bool) (i q : ℕ) (b : Bool) → b ≡ get_or inside i b → i ≡ q → q < STATE_LIMIT → inside ≡ map (is_in listed) (range_with_len 0 STATE_LIMIT) → listed ≡ set → b ≡ is_in set q
-flag_is listed set inside i q b e at l table same =
-    e
-    ∙ ap (λ n. get_or inside n b) at
-    ∙ ap (λ xs. get_or xs q b) table
-    ∙ get_or-map-range_with_len (is_in listed) 0 STATE_LIMIT q q b l (zero-add q)
-    ∙ ap (λ s. is_in s q) same

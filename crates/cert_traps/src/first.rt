@@ -1,6 +1,6 @@
 //! The first move that enters a set of states.
 
-ghost use Rattle.std.specs.Prelude.{◌≡◌, ◌++◌, ◌∷◌, [], pos, negsuc, IfOk, OnOk};
+ghost use Rattle.std.specs.Prelude.{◌≡◌, ◌++◌, pos, negsuc, IfOk, OnOk};
 ghost use Rattle.pop_net.specs.declared.limits.TheConstants.{STATE_LIMIT};
 ghost use Rattle.pop_net.specs.LeafModel.{IsLeaf, IsMoveBelow};
 ghost use Rattle.cert_base.specs.declared.fact.Fact.TheVariants.{Ge};

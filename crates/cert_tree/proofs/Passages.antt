@@ -17,11 +17,6 @@ use Rattle.cert_tree.specs.Frames.{Stacked, stacked, IsFit}
 use Rattle.cert_tree.specs.Rooms.{placed, waiting_in, depth_in, dead_in, IsSoundIn, Opens, HasPassed}
 use Rattle.cert_tree.proofs.Ordered.{CasesOrdered, all_of, cases_ordered, first_case}
 
--- either leaf that may be dead has the leaf's places
-pub same_places : (leaf dead : LeafModel) (is_still : Bool) → HaveSamePlaces leaf dead → HaveSamePlaces leaf (dead_at leaf dead is_still)
-same_places leaf dead true same = record { inputs = refl; states = refl }
-same_places leaf dead false same = same
-
 -- cases on a stack, as cases of the tree
 pub all_placed : (above n : ℕ) (is_still : Bool) (facts : List Fact) (cases : List (List Fact)) → map (placed above is_still) (map (λ own. (n, facts ++ own)) cases) ≡ cases_under (above + n) is_still facts cases
 all_placed above n is_still facts [] = refl

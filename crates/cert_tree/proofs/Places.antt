@@ -37,37 +37,9 @@ found old walk base mode sound outside at =
           };
     }
 
--- nothing waits in a room on whose stack nothing does
-pub none_in : (room : Room) → stacked room.stack ≡ [] → waiting_in room ≡ []
-none_in room none = ap (map (placed room.above room.is_still)) none
-
 -- what waits in the rooms outside, the latest of which is this one
 pub next_outside : (all rest : List Room) (room : Room) → all ≡ rest ++ room ∷ [] → waiting_rooms (reverse all) ≡ waiting_in room ++ waiting_rooms (reverse rest)
 next_outside all rest room e = ap waiting_rooms (turned all rest room e)
 
 pub split_sound : (all rest : List Room) (room : Room) → all ≡ rest ++ room ∷ [] → AreSound (reverse all) → IsSoundIn room × AreSound (reverse rest)
 split_sound all rest room e sound = subst AreSound (turned all rest room e) sound
-
-pub join_sound : (all rest : List Room) (room : Room) → all ≡ rest ++ room ∷ [] → IsSoundIn room → AreSound (reverse rest) → AreSound (reverse all)
-join_sound all rest room e inside outside = subst AreSound (sym (turned all rest room e)) (inside, outside)
-
--- the walk at the beginning
-pub begun_waits : (walk : Walk) (facts : List Fact) → Opens 0 false facts ([] ∷ []) walk.room → walk.outside.items ≡ [] → waiting walk ≡ waits 0 false facts ∷ []
-begun_waits walk facts opens none =
-    ap (λ rooms. waiting_in walk.room ++ waiting_rooms (reverse rooms)) none
-    ∙ append-nil (waiting_in walk.room)
-    ∙ opened_waits 0 false facts ([] ∷ []) walk.room opens
-    ∙ ap (λ known. waits 0 false known ∷ []) (append-nil facts)
-
-pub begun_sound : (walk : Walk) (facts : List Fact) → Opens 0 false facts ([] ∷ []) walk.room → walk.outside.items ≡ [] → IsFit (0, facts) → IsSound walk
-begun_sound walk facts opens none fit =
-    let only : stacked walk.room.stack ≡ (0, facts) ∷ [] = opens.waits ∙ ap (λ known. (0, known) ∷ []) (append-nil facts) in
-    record {
-      inside =
-          record {
-            low = omega (arith, opens.above_is);
-            nested = opens.nested;
-            fit = rw only (All-cons IsFit (0, facts) [] fit (All-nil IsFit));
-          };
-      outside = rw none tt;
-    }

@@ -14,9 +14,6 @@ use Rattle.cert_tree.specs.Rooms.{HaltsBy}
 use Rattle.cert_tree.specs.Walks.{HaltsAt}
 
 module _ (leaf dead : LeafModel) (above : ℕ) (facts : List Fact) (node : Node) where
-  pub too_deep : 4096 ≤ above → refusal leaf dead above facts node ≡ Some TooDeep
-  too_deep l = rw (le-ltb above 4096 l) refl
-
   module _ (l : above < 4096) where
     pub own_refused : (halt : Failure TreeWhy) → HaltsBy (own_refusal leaf dead facts node) halt → HaltsBy (refusal leaf dead above facts node) halt
     own_refused (Fault why) own = rw (lt-ltb above 4096 l, own) refl

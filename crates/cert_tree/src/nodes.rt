@@ -179,7 +179,8 @@ fn first_node(
     leaf: &Leaf,
     set: &List<u16>,
 ) -> Result<List<List<Fact>>, Failure<TreeWhy>>
-    ensures passed { (dead : LeafModel) (facts : List Fact) → IfOk result (IsPassed leaf.now dead facts (First set.now)) }
+    ensures passed { (dead : LeafModel) (facts : List Fact)
+        → IfOk result (IsPassed leaf.now dead facts (First set.now)) }
     ensures halts { (dead : LeafModel) (facts : List Fact)
         → IfErr result (HaltsBy (own_refusal leaf.now dead facts (First set.now))) }
 {
