@@ -1,17 +1,14 @@
 -- What the search for a woken move says of a set.
-use Rattle.std.proofs.Common.{◌≡◌, ◌⊎◌, inl, inr, ℕ, ◌<◌, ◌≤◌, Bool, true, false, not, ◌&&◌, List, length, map, get_or, refl, ap, sym, ◌∙◌, zero-add}
+use Rattle.std.proofs.Common.{◌≡◌, ◌⊎◌, inl, inr, ℕ, ◌<◌, ◌≤◌, Bool, true, false, not, ◌&&◌, List, length, refl, ap, sym, ◌∙◌}
 use Rattle.std.specs.Prelude.{Option, Some, None, slice_get, Contains}
-use Rattle.std.specs.List.{range_with_len}
 use Rattle.std.proofs.lemmas.Bool.{and_parts, and_cases, and_from, and_left, and_right, cases_Bool, cases_lt, false≢true}
 use Rattle.std.proofs.lemmas.Option.{slice_get_past}
-use Rattle.std.proofs.lemmas.List.FromFn.{get_or-map-range_with_len}
 use Rattle.pop_net.specs.declared.leaf.Move.{Move}
-use Rattle.pop_net.specs.declared.limits.TheConstants.{STATE_LIMIT}
 use Rattle.pop_net.specs.LeafModel.{LeafModel, IsLeaf, IsMoveBelow, silent_move}
 use Rattle.pop_net.specs.FirstFault.{first_below}
 use Rattle.pop_net.proofs.FirstFault.{none_below}
 use Rattle.pop_net.proofs.Quiet.{All-slice_get}
-use Rattle.cert_base.specs.FactsAndCases.{is_in, can_meet_in}
+use Rattle.cert_base.specs.FactsAndCases.{can_meet_in}
 use Rattle.cert_layers.specs.LayerFaults.{Each, IsFirstFailing}
 use Rattle.cert_layers.specs.Search.{some_move}
 use Rattle.cert_layers.specs.Waking.{wakes_states, may_wake_any, FindsFirst}

@@ -1,5 +1,5 @@
 -- A node that a room passes.
-use Rattle.std.proofs.Common.{◌≡◌, ℕ, ◌+◌, Bool, true, false, List, [], ◌∷◌, ◌++◌, length, map, refl, ap, ◌∙◌, length-append, arith}
+use Rattle.std.proofs.Common.{◌≡◌, ℕ, ◌+◌, Bool, true, List, [], ◌∷◌, ◌++◌, length, map, refl, ap, ◌∙◌, length-append, arith}
 use Rattle.std.specs.Prelude.{All, nat_le}
 use Rattle.std.proofs.lemmas.Bool.{leb-true}
 use Rattle.std.proofs.lemmas.List.{map-append}
@@ -8,11 +8,10 @@ use Rattle.pop_net.proofs.Reactions.{and_left, and_right}
 use Rattle.pop_net.specs.LeafModel.{LeafModel}
 use Rattle.cert_base.specs.declared.fact.Fact.{Fact}
 use Rattle.cert_base.specs.declared.node.Node.{Node}
-use Rattle.cert_base.specs.Ends.{HaveSamePlaces}
 use Rattle.cert_linear.specs.Conditions.{IsOrdered}
 use Rattle.cert_tree.specs.declared.room.Room.{Room}
 use Rattle.cert_tree.specs.Format.{IsWithinFormat}
-use Rattle.cert_tree.specs.Refusals.{Waiting, dead_at, cases_at, cases_under, all_fit}
+use Rattle.cert_tree.specs.Refusals.{Waiting, cases_at, cases_under, all_fit}
 use Rattle.cert_tree.specs.Frames.{Stacked, stacked, IsFit}
 use Rattle.cert_tree.specs.Rooms.{placed, waiting_in, depth_in, dead_in, IsSoundIn, Opens, HasPassed}
 use Rattle.cert_tree.proofs.Ordered.{CasesOrdered, all_of, cases_ordered, first_case}

@@ -1,16 +1,13 @@
 -- Where a walk stands.
-use Rattle.std.proofs.Common.{◌≡◌, suc, ◌+◌, false, List, [], ◌∷◌, ◌++◌, map, reverse, ap, sym, subst, ◌∙◌, append-nil, arith}
+use Rattle.std.proofs.Common.{◌≡◌, suc, ◌+◌, List, [], ◌∷◌, ◌++◌, map, reverse, ap, sym, subst, ◌∙◌, arith}
 use Rattle.std.specs.Prelude.{All}
-use Rattle.std.proofs.lemmas.List.Elements.{All-nil, All-cons}
-use Rattle.cert_base.specs.declared.fact.Fact.{Fact}
 use Rattle.cert_tree.specs.declared.room.Room.{Room}
 use Rattle.cert_tree.specs.declared.walk.Walk.{Walk}
 use Rattle.cert_tree.specs.Refusals.{waits}
 use Rattle.cert_tree.specs.Frames.{Stacked, stacked, IsFit, StandsAtFirst}
-use Rattle.cert_tree.specs.Rooms.{placed, waiting_in, IsSoundIn, Opens}
-use Rattle.cert_tree.specs.Walks.{waiting_rooms, waiting_outside, waiting, AreSound, IsSound, StandsAt}
+use Rattle.cert_tree.specs.Rooms.{placed, waiting_in, IsSoundIn}
+use Rattle.cert_tree.specs.Walks.{waiting_rooms, waiting_outside, AreSound, StandsAt}
 use Rattle.cert_tree.proofs.Stacks.{turned}
-use Rattle.cert_tree.proofs.Passages.{opened_waits}
 
 -- the room's next case is the walk's
 pub found : (old : Room) (walk : Walk) → walk.room.above ≡ old.above → walk.room.is_still ≡ old.is_still → IsSoundIn old → AreSound (reverse walk.outside.items) → StandsAtFirst (stacked old.stack) walk.room.stack → StandsAt (waiting_in old ++ waiting_outside walk) walk

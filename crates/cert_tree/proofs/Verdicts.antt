@@ -1,18 +1,15 @@
 -- What the walk's end says of the nodes.
 use Rattle.std.proofs.Common.{◌≡◌, ◌≢◌, ℕ, ◌+◌, ◌-◌, ◌<◌, Bool, true, false, List, [], ◌∷◌, length, drop, get_or, refl, ap, sym, ◌∙◌, arith}
-use Rattle.std.specs.Prelude.{Option, Some, None, count_by, slice_index, slice_index_or, nat_lt, if◌then◌else◌, ◌==◌}
-use Rattle.std.proofs.lemmas.Bool.{lt-ltb, le-ltb}
+use Rattle.std.specs.Prelude.{Option, Some, None, slice_index_or}
 use Rattle.std.proofs.lemmas.Option.{slice_get-get_or}
 use Rattle.std.proofs.lemmas.List.{drop_more}
 use Rattle.pres_ast.specs.PredTree.{PredTree}
 use Rattle.pop_net.specs.LeafModel.{LeafModel}
 use Rattle.pop_net.specs.InputCrowd.{leaf_input_crowd}
-use Rattle.pop_net.specs.Step.{LeafStep}
-use Rattle.pop_net.specs.Reachable.{Leads}
 use Rattle.cert_base.specs.declared.node.Node.{Node}
 use Rattle.cert_base.specs.declared.fact.Fact.{Fact}
 use Rattle.cert_base.specs.Closes.{ClosesFor}
-use Rattle.cert_base.specs.Valuation.{Valuation, times_taken, IsOfExecution}
+use Rattle.cert_base.specs.Valuation.{Valuation, times_taken}
 use Rattle.cert_base.specs.Ends.{IsWrongEnd, EndsRight, HoldAtWrongEnds}
 use Rattle.cert_base.proofs.Executions.{count_for, execution_has}
 use Rattle.cert_tree.specs.declared.fault.TreeWhy.TheVariants.{Missing}

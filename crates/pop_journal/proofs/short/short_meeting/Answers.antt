@@ -1,4 +1,4 @@
-use Rattle.std.proofs.Common.{rules, ◌<◌, ◌^◌, ◌≡◌, ℕ, sym, subst}
+use Rattle.std.proofs.Common.{rules, ◌<◌, ◌^◌, ℕ, sym, subst}
 use Rattle.std.specs.Prelude.{Some}
 use Rattle.pop_lines.specs.Lines.{lines_of}
 use Rattle.pop_journal.specs.Form.{Tells}
