@@ -21,8 +21,9 @@ from .treefinder import find_tree
 from .waking import Moves
 
 TRIES = 60
-EARLY, EARLY_SECONDS = 6, 3.0  # choices of moves behind which trees with `first` are tried for them
-ENTRY_SECONDS = 10.0  # for such trees at the end
+EARLY, EARLY_SECONDS = 6, 1.0  # choices of moves behind which a tree for all moves is looked for
+ENTRY_SECONDS = 6.0  # for trees with `first`, where no other was found
+DEEPER_SECONDS = 15.0  # for a goal whose tree has to have `first`
 TREE_SECONDS = 15.0
 MANY = 150  # moves above which none are inserted one by one
 SEED = 1
@@ -63,25 +64,35 @@ class GoalFinder:
             self.failed.append(groups)
             tries += 1
             note(tries / TRIES)
-            goal = self._by_entries(EARLY_SECONDS) if tries == EARLY else None
-            if goal is not None:
-                return goal
-        goal = self._by_entries(ENTRY_SECONDS)
+            if tries == EARLY and self._needs_entries():
+                return find_goal(self.leaf, self.tree, self.value, self.deadline, self.small, 1)
+        goal = self._by_entries()
         if goal is None:
             raise NoGoal(f"{tries} choices of moves were tried")
         return goal
 
-    def _by_entries(self, seconds: float) -> Goal | None:
+    def _needs_entries(self) -> bool:
+        """Whether even a tree for all moves has to have `first`."""
+        if self.depth:
+            return False
+        try:
+            find_tree(self.leaf, self.tree, self.value, None, min(self.deadline, clock() + EARLY_SECONDS), 0.0)
+        except WrongEnd:
+            return True
+        except (GaveUp, Trouble):
+            pass
+        return False
+
+    def _by_entries(self) -> Goal | None:
         """A goal by a choice of moves that failed, with a tree that has `first` in it."""
         if self.depth:
             return None
-        deadline, self.depth = self.deadline, 1
-        self.deadline = min(deadline, clock() + seconds)
-        goal = None
-        while goal is None and self.failed and clock() < self.deadline:
-            goal = self._with(self.failed.pop(0))
-        self.deadline, self.depth = deadline, 0
-        return goal
+        self.deadline, self.depth = min(self.deadline, clock() + ENTRY_SECONDS), 1
+        for groups in self.failed:
+            goal = self._with(groups) if clock() < self.deadline else None
+            if goal is not None:
+                return goal
+        return None
 
     def _out(self, t: int) -> int:
         """How many agents a move puts among wrong states, less those that it takes from them."""
@@ -156,4 +167,6 @@ def _used_facts(nodes: Tree) -> set[int]:
 
 def find_goal(leaf: Leaf, tree: Predicate, value: bool, deadline: float, small: float, depth: int = 0) -> Goal:
     """A goal for a value, or NoGoal. With a depth its tree has `first` from the beginning, as no tree does without."""
+    if depth:
+        deadline = min(deadline, clock() + DEEPER_SECONDS)
     return GoalFinder(leaf, tree, value, deadline, small, depth).found()

@@ -11,13 +11,14 @@ from hypothesis.strategies import integers
 
 from hurleyoak.engine import program
 from hurleyoak.proof.checking import first_woken, layer_fault, verdict
+from hurleyoak.proof.entries import entries_of
 from hurleyoak.proof.facts import Space
 from hurleyoak.text.files import load
 from hurleyoak.text.loaded import LoadedNet
 from hurleyoak.protocol.nets import Leaf, Net, pair
 from hurleyoak.protocol.predicatereader import read_predicate
 from hurleyoak.protocol.predicates import Predicate, value_at
-from hurleyoak.proof.bundles import Bundle, Layer, LeafProof, Node, Present, Siphon, Split, Trap, Twin
+from hurleyoak.proof.bundles import Bundle, First, Layer, LeafProof, Node, Present, Siphon, Split, Trap, Twin
 
 from .conftest import CHANGES, EXAMPLES, bundle_at, example_paths, needs_program
 from .test_commands import pop
@@ -43,6 +44,7 @@ from hurleyoak.proof.items import Cases, fact_of  # noqa: E402
 from hurleyoak.search.layers import LayerFinder  # noqa: E402
 from hurleyoak.search.least import least_groups  # noqa: E402
 from hurleyoak.search.smt import NONE, layers_by_smt  # noqa: E402
+from hurleyoak.search.trees import Entered  # noqa: E402
 from hurleyoak.search.waking import Waking  # noqa: E402
 
 
@@ -66,6 +68,8 @@ def test_cases_are_those_of_the_facts(net: Net) -> None:
         Siphon((0,)),
         Trap(tuple(range(count))),
         Siphon(tuple(range(0, count, 2))),
+        First((0,)),
+        First(tuple(range(0, count, 2))),
         Split(((0, 1), (1, -2)), 3),
     ]
     for node in nodes:
@@ -74,6 +78,23 @@ def test_cases_are_those_of_the_facts(net: Net) -> None:
         assert [[(f.kind, f.terms, f.constant) for f in case] for case in made] == [
             [(f.kind, f.terms, f.constant) for f in case] for case in wanted
         ]
+
+
+@settings(deadline=None, max_examples=60)
+@given(nets())
+def test_facts_before_an_entry_are_those_of_the_checker(net: Net) -> None:
+    leaf = net.leaves[0]
+    cases, space = Cases(leaf), Space(leaf)
+    tree = read_predicate("x - y < 1", net.names)
+    trap = Trap((0,))
+    for states in ((0,), tuple(range(0, len(leaf.states), 2))):
+        for at in range(3):
+            branch = [*cases.base(tree, True), *list(cases.of(trap))[at]]
+            facts = [*space.base(tree, True), *space.cases(trap)[at]]
+            made = Entered(cases, *cases.before(states)).base(branch)
+            mine = [fact_of(item, k) for item in made for k in range(len(item))]
+            wanted = entries_of(space, facts, First(states)).facts
+            assert [(f.kind, f.terms, f.constant) for f in mine] == [(f.kind, f.terms, f.constant) for f in wanted]
 
 
 @settings(deadline=None, max_examples=60)

@@ -150,7 +150,9 @@ def random_nodes(rng: random.Random, leaf: Leaf) -> list[Node]:
     for _ in range(rng.randrange(1, 9)):
         some = sorted(rng.sample(states, rng.randrange(len(states))))
         word = rng.choice(["first", "first", "first", "trap", "siphon"])
-        one = ["present", rng.choice(states)] if rng.random() < 0.3 else [word, some]
+        one: list[object] = ["present", rng.choice(states)] if rng.random() < 0.3 else [word, some]
+        if rng.random() < 0.2:  # (a term of nothing doesn't make it a fact of the end)
+            one = ["split", [[0, rng.choice([-1, 1])], [len(leaf.inputs), rng.choice([0, 0, 1])]], rng.randrange(3)]
         made.append(node_of(one, "") if rng.random() < 0.7 else Linear(((rng.randrange(30), rng.choice([1, -1])),)))
     return made
 
@@ -167,6 +169,20 @@ def test_random_trees_are_read_alike_and_written() -> None:
         other = Bundle(bundle.net, bundle.pred, (made, *bundle.proof[1:]))
         assert second(other.value()) == verdict(other)
         assert strict_bundle(load(text_of(other.net, other), "f")) == other
+
+
+def test_what_is_refused_is_opened_to_be_found() -> None:
+    """`--mend` puts `?` in the place of the node in an entry, and finds it anew."""
+    pytest.importorskip("scipy")
+    from hurleyoak.search.finding import find
+    from hurleyoak.search.mending import _open, openings
+
+    bundle = bundle_in(FLOCK)
+    nodes = list(bundle.proof[0].tree(False))
+    broken = _with_false(bundle, [*nodes[:2], Linear(()), *nodes[3:]])
+    drafts = next(openings(broken, verdict(broken)))
+    found = find(_open(load(FLOCK.read_text(), "f"), broken, drafts), 20.0, 0.0, 1)
+    assert found.bundle is not None and verdict(found.bundle) == "certified 3"
 
 
 def test_refused_json() -> None:
