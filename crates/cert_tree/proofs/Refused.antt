@@ -15,14 +15,7 @@ use Rattle.cert_tree.specs.Walks.{HaltsAt}
 
 module _ (leaf dead : LeafModel) (above : ℕ) (facts : List Fact) (node : Node) where
   module _ (l : above < 4096) where
-    pub own_refused : (halt : Failure TreeWhy) → HaltsBy (own_refusal leaf dead facts node) halt → HaltsBy (refusal leaf dead above facts node) halt
-    own_refused (Fault why) own = rw (lt-ltb above 4096 l, own) refl
-    own_refused NoMemory own = tt
-
     module _ (own : own_refusal leaf dead facts node ≡ None) where
-      pub too_many : all_fit facts (cases_at leaf dead facts node) ≡ false → refusal leaf dead above facts node ≡ Some TooManyFacts
-      too_many fit = rw (lt-ltb above 4096 l, own, fit) refl
-
       pub refused_before : all_fit facts (cases_at leaf dead facts node) ≡ true → (halt : Failure TreeWhy) → HaltsBy (if all_fit (facts_before leaf facts node) (entries leaf node) then None else Some TooManyFacts) halt → HaltsBy (refusal leaf dead above facts node) halt
       refused_before fit NoMemory h = tt
       refused_before fit (Fault why) h = go (all_fit (facts_before leaf facts node) (entries leaf node)) refl h

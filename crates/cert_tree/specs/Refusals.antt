@@ -102,7 +102,8 @@ or_else (Some why) other = Some why
 abbrev pub refusal : (leaf dead : LeafModel) → ℕ → List Fact → Node → Option TreeWhy
 refusal leaf dead above facts node =
     if not (nat_lt above PATH_LIMIT) then Some TooDeep
-    else or_else (own_refusal leaf dead facts node) (if have_room leaf dead facts node then None else Some TooManyFacts)
+    else or_else (own_refusal leaf dead facts node)
+    (if have_room leaf dead facts node then None else Some TooManyFacts)
 
 -- a case that waits for its nodes: how many nodes are above it, whether it speaks of a crowd before an entry, which
 -- need not be terminal, and its facts
