@@ -56,10 +56,10 @@ module _ (leaf : LeafModel) (set : List ℕ) (before after : List ℕ) (s : Leaf
 
   -- a step from outside the set takes nothing from it, and stays outside unless it enters
   step_on : (c : LeafChange leaf s.x s.y s.x' s.y') → ((n : ℕ) (t : Move) → slice_get leaf.moves n ≡ Some t → enters set t ≡ true → is_by n c ≡ 0) → NoneInside set after × ((n : ℕ) (t : Move) → slice_get leaf.moves n ≡ Some t → takes_from set t ≡ true → is_by n c ≡ 0)
-  step_on (inl stay) enters = (nobody_after (ap (is_in set) stay.0 ∙ x_outside, ap (is_in set) stay.1 ∙ y_outside), λ n t h e. refl)
-  step_on (inr m) enters =
+  step_on (inl stay) untaken = (nobody_after (ap (is_in set) stay.0 ∙ x_outside, ap (is_in set) stay.1 ∙ y_outside), λ n t h e. refl)
+  step_on (inr m) untaken =
       let takes = takes_by set m.taken s.x s.y s.x' s.y' m.followed x_outside y_outside in
-      let stays = taken_fails leaf (enters set) m.number m.taken m.listed enters in
+      let stays = taken_fails leaf (enters set) m.number m.taken m.listed untaken in
       let puts = takes_none (puts_into set m.taken) (takes_from set m.taken) stays takes in
       (nobody_after (both_outside set m.taken s.x s.y s.x' s.y' m.followed puts), others_untaken leaf (takes_from set) m.number m.taken m.listed takes)
 
