@@ -15,6 +15,7 @@ mod fault;
 mod limits;
 mod listing;
 mod naming;
+mod narrow;
 mod node;
 mod values;
 mod weights;

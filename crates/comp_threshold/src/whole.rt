@@ -11,6 +11,7 @@ ghost use Rattle.comp_threshold.specs.Built.{IsThreshold, BuildsThreshold};
 use crate::building::threshold_leaf;
 use crate::fault::ThresholdFault;
 use crate::limits::WIDTH_LIMIT;
+use crate::narrow::Width;
 use crate::node::both_trees;
 use crate::values::place;
 use crate::weights::leaf_layers;
@@ -37,21 +38,20 @@ fn leaf_proof(
     alloc: Global,
     coefs: &[i64],
     bound: i64,
-    s: u16,
+    width: Width,
     leaf: &Leaf,
 ) -> Result<LeafProof, NoMemory>
-    requires width { s ≡ threshold_width coefs.now bound }
-    requires narrow { s ≤ WIDTH_LIMIT }
+    requires exact { width.number ≡ threshold_width coefs.now bound }
     requires sum { IsAtomSum coefs.now }
     requires bound { nat_abs bound ≤ BOUND_LIMIT }
     requires built { leaf.now ≡ threshold_leaf_of coefs.now bound }
     requires single { AllPairs Differ leaf.now.moves }
     ensures { IfOk result (IsThreshold coefs.now bound leaf.now) }
 {
-    let t = place(s, bound);
+    let t = place(width, bound);
     let pred = less(alloc, coefs, bound)?;
-    let layers = leaf_layers(alloc, leaf, s)?;
-    let (on_true, on_false) = both_trees(alloc, leaf, s, t)?;
+    let layers = leaf_layers(alloc, leaf, width)?;
+    let (on_true, on_false) = both_trees(alloc, leaf, width, t)?;
     Ok(LeafProof {
         pred,
         layers,
@@ -65,16 +65,15 @@ fn leaf_of_width(
     alloc: Global,
     coefs: &[i64],
     bound: i64,
-    s: u16,
+    width: Width,
 ) -> Result<(Leaf, LeafProof), NoMemory>
-    requires width { s ≡ threshold_width coefs.now bound }
-    requires narrow { s ≤ WIDTH_LIMIT }
+    requires exact { width.number ≡ threshold_width coefs.now bound }
     requires sum { IsAtomSum coefs.now }
     requires bound { nat_abs bound ≤ BOUND_LIMIT }
     ensures { IfOk result (λ both. IsThreshold coefs.now bound both.0 both.1) }
 {
-    let leaf = threshold_leaf(alloc, coefs, bound, s)?;
-    let proof = leaf_proof(alloc, coefs, bound, s, &leaf)?;
+    let leaf = threshold_leaf(alloc, coefs, bound, width)?;
+    let proof = leaf_proof(alloc, coefs, bound, width, &leaf)?;
     Ok((leaf, proof))
 }
 
@@ -92,5 +91,5 @@ pub fn threshold(
     if WIDTH_LIMIT < s {
         return Err(Failure::Fault(ThresholdFault::TooWide(s)));
     }
-    Ok(leaf_of_width(alloc, coefs, bound, s as u16)?)
+    Ok(leaf_of_width(alloc, coefs, bound, Width::new(s as u16))?)
 }

@@ -10,28 +10,28 @@ use Rattle.comp_threshold.proofs.Single.{moves-single}
 use Rattle.comp_threshold.proofs.Formed.{built-formed}
 use Rattle.comp_threshold.proofs.building.threshold_leaf.Goals as goal
 
-pub place-t-requires-clause-within : goal.place-t-requires-clause-within
-place-t-requires-clause-within c =
+pub place-t-requires : goal.place-t-requires
+place-t-requires c =
     let fits : SFits w64 c.args.bound = search rules in
     let same = to_z-of_z w64 c.args.bound fits in
     let wide = width-bound c.args.coefs.now c.args.bound in
-    let w = c.requires.width in
+    let w = c.requires.exact in
     omega (arith, ap nat_abs same, wide, w)
 
 pub built_leaf-requires-clause-within : goal.built_leaf-requires-clause-within
 built_leaf-requires-clause-within c =
-    λ k d l. (let wide = width-coef c.args.coefs.now c.args.bound k d l in let w = c.requires.width in omega (arith, wide, w))
+    λ k d l. (let wide = width-coef c.args.coefs.now c.args.bound k d l in let w = c.requires.exact in omega (arith, wide, w))
 
 pub built_leaf-requires-clause-formed : goal.built_leaf-requires-clause-formed
 built_leaf-requires-clause-formed c =
     let fits : SFits w64 c.args.bound = search rules in
-    built-formed c.args.coefs.now c.args.bound c.args.s c.place-t.result c.requires.width (c.place-t.ensures ∙ ap (place_of_value c.args.s) (to_z-of_z w64 c.args.bound fits)) c.requires.inputs.some c.requires.inputs.few c.requires.narrow
+    built-formed c.args.coefs.now c.args.bound c.args.width.number c.place-t.result c.requires.exact (c.place-t.ensures ∙ ap (place_of_value c.args.width.number) (to_z-of_z w64 c.args.bound fits)) c.requires.inputs.some c.requires.inputs.few c.args.width.within
 
 pub returns : goal.returns
 returns c =
     IfOk-weaker c.built_leaf.result _ _
     (λ leaf e. record {
       built = search rules;
-      single = subst (λ (l : LeafModel). AllPairs Differ l.moves) (sym e) (moves-single c.args.s c.place-t.result);
+      single = subst (λ (l : LeafModel). AllPairs Differ l.moves) (sym e) (moves-single c.args.width.number c.place-t.result);
     })
     c.built_leaf.ensures

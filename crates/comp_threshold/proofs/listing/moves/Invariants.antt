@@ -5,8 +5,8 @@ use Rattle.comp_threshold.specs.ThresholdLeaf.{span_of, threshold_pairs, thresho
 use Rattle.comp_threshold.proofs.listing.moves.Given as goal
 
 abbrev pub invariant-loop-p : goal.invariant-loop-p
-invariant-loop-p l = l.moves.items ≡ flat_map (threshold_pairs l.s l.t) (range_with_len 0 l.p)
+invariant-loop-p l = l.moves.items ≡ flat_map (threshold_pairs l.width.number l.t) (range_with_len 0 l.p)
 
 abbrev pub invariant-loop-p-2 : goal.invariant-loop-p-2
 invariant-loop-p-2 l =
-    l.moves.items ≡ flat_map (threshold_pairs l.s l.t) (range_with_len 0 (span_of l.s)) ++ flat_map (threshold_turns l.s l.t) (range_with_len 0 l.p)
+    l.moves.items ≡ flat_map (threshold_pairs l.width.number l.t) (range_with_len 0 (span_of l.width.number)) ++ flat_map (threshold_turns l.width.number l.t) (range_with_len 0 l.p)

@@ -7,25 +7,25 @@ use Rattle.comp_threshold.proofs.Places.{width-bound}
 use Rattle.comp_threshold.proofs.Valid.{whole-valid, outputs-are, states-are}
 use Rattle.comp_threshold.proofs.whole.leaf_proof.Goals as goal
 
-pub place-t-requires-clause-within : goal.place-t-requires-clause-within
-place-t-requires-clause-within c =
+pub place-t-requires : goal.place-t-requires
+place-t-requires c =
     let fits : SFits w64 c.args.bound = search rules in
     let same = to_z-of_z w64 c.args.bound fits in
     let wide = width-bound c.args.coefs.now c.args.bound in
-    let w = c.requires.width in
+    let w = c.requires.exact in
     omega (arith, ap nat_abs same, wide, w)
 
 pub both_trees-requires-clause-states : goal.both_trees-requires-clause-states
 both_trees-requires-clause-states c =
-    states-are c.args.coefs.now c.args.bound c.args.s c.args.leaf.now c.requires.width c.requires.built
+    states-are c.args.coefs.now c.args.bound c.args.width.number c.args.leaf.now c.requires.exact c.requires.built
 
 pub both_trees-requires-clause-outputs : goal.both_trees-requires-clause-outputs
 both_trees-requires-clause-outputs c =
     let fits : SFits w64 c.args.bound = search rules in
-    outputs-are c.args.coefs.now c.args.bound c.args.s c.place-t.result c.args.leaf.now c.requires.width (c.place-t.ensures ∙ ap (place_of_value c.args.s) (to_z-of_z w64 c.args.bound fits)) c.requires.built
+    outputs-are c.args.coefs.now c.args.bound c.args.width.number c.place-t.result c.args.leaf.now c.requires.exact (c.place-t.ensures ∙ ap (place_of_value c.args.width.number) (to_z-of_z w64 c.args.bound fits)) c.requires.built
 
 pub returns : goal.returns
 returns c =
     let fits : SFits w64 c.args.bound = search rules in
-    whole-valid c.args.coefs.now c.args.bound c.args.s c.place-t.result c.args.leaf.now c.in_ok-pred.pred c.in_ok-layers.layers c.in_ok-on_true.on_true c.in_ok-on_true.on_false
-    c.requires.width (c.place-t.ensures ∙ ap (place_of_value c.args.s) (to_z-of_z w64 c.args.bound fits)) c.requires.built c.requires.single (c.in_ok-pred.ensures ∙ ap (λ z. record { variables = length c.args.coefs.now; tree = LessThan c.args.coefs.now z }) (to_z-of_z w64 c.args.bound fits)) c.in_ok-layers.ensures c.in_ok-on_true.ensures.on_true c.in_ok-on_true.ensures.on_false c.requires.sum.some c.requires.sum.few c.requires.narrow
+    whole-valid c.args.coefs.now c.args.bound c.args.width.number c.place-t.result c.args.leaf.now c.in_ok-pred.pred c.in_ok-layers.layers c.in_ok-on_true.on_true c.in_ok-on_true.on_false
+    c.requires.exact (c.place-t.ensures ∙ ap (place_of_value c.args.width.number) (to_z-of_z w64 c.args.bound fits)) c.requires.built c.requires.single (c.in_ok-pred.ensures ∙ ap (λ z. record { variables = length c.args.coefs.now; tree = LessThan c.args.coefs.now z }) (to_z-of_z w64 c.args.bound fits)) c.in_ok-layers.ensures c.in_ok-on_true.ensures.on_true c.in_ok-on_true.ensures.on_false c.requires.sum.some c.requires.sum.few c.args.width.within
