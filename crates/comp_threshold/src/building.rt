@@ -25,7 +25,8 @@ pub(crate) fn output(width: Width, t: u16, q: u16) -> bool
 
 fn outputs(alloc: Global, width: Width, t: u16) -> Result<Vec<bool>, NoMemory>
     ensures { IfOk result (λ outputs.
-        outputs.items ≡ map (threshold_output width.number t) (range_with_len 0 (threshold_state_count width.number))) }
+        outputs.items ≡ map (threshold_output width.number t)
+        (range_with_len 0 (threshold_state_count width.number))) }
 {
     let outputs = (0..3 * span(width))
         .map(|q| output(width, t, q))

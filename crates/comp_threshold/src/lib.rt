@@ -10,6 +10,7 @@
 //! no value, or one beyond the end of the range at which the leader stands.
 #![tactic(auto)]
 
+mod bounded;
 mod building;
 mod fault;
 mod limits;

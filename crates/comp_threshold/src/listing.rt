@@ -1,6 +1,6 @@
 //! The moves of a leaf.
 
-ghost use Rattle.std.specs.Prelude.{◌≡◌, ◌<◌, ◌≤◌, IfOk};
+ghost use Rattle.std.specs.Prelude.{◌≡◌, ◌<◌, IfOk};
 ghost use Rattle.comp_threshold.specs.ThresholdLeaf.{span_of, threshold_state_count, threshold_leader_move};
 ghost use Rattle.comp_threshold.specs.ThresholdLeaf.{alters_states, threshold_pairs, threshold_turns};
 ghost use Rattle.comp_threshold.specs.ThresholdLeaf.{threshold_moves};

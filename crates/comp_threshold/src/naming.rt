@@ -1,6 +1,6 @@
 //! The names of states.
 
-ghost use Rattle.std.specs.Prelude.{◌≡◌, ◌≤◌, map, IfOk};
+ghost use Rattle.std.specs.Prelude.{◌≡◌, map, IfOk};
 ghost use Rattle.std.specs.List.{range_with_len};
 ghost use Rattle.comp_threshold.specs.ThresholdLeaf.{threshold_state_count, threshold_state_name};
 

@@ -1,18 +1,18 @@
 //! The node of a leader that is present.
 
-ghost use Rattle.std.specs.Prelude.{◌≡◌, ◌<◌, ◌≤◌, List, map, length, true, false, IfOk};
+ghost use Rattle.std.specs.Prelude.{◌≡◌, ◌<◌, List, map, length, true, false, IfOk};
 ghost use Rattle.std.specs.List.{range_with_len};
 ghost use Rattle.comp_threshold.specs.ThresholdLeaf.{span_of, threshold_state_count, threshold_output};
 ghost use Rattle.comp_threshold.specs.ThresholdProof.{signed_value, threshold_leader_node, wrong_sign};
 ghost use Rattle.comp_threshold.specs.ThresholdProof.{threshold_value_node, threshold_wrong_node, threshold_tree};
 
+use crate::bounded::BoundedLeaf;
 use crate::building::output;
 use crate::narrow::Width;
 use crate::values::{place_in, span};
 use cert_base::Node;
 use comp_trees::{multipliers, tree, weighed};
 use pop_io::{List, NoMemory};
-use pop_net::Leaf;
 use std::alloc::Global;
 
 /// The value of a state, negated in the tree for false.
@@ -52,16 +52,15 @@ fn signs(alloc: Global, width: Width, t: u16, b: bool) -> Result<Vec<i64>, NoMem
 }
 
 /// The leader's value doesn't agree with the opened fact.
-fn value_node(alloc: Global, leaf: &Leaf, width: Width, b: bool, p: u16) -> Result<Node, NoMemory>
-    requires leader { p < span_of width.number }
-    requires states { length leaf.now.states ≡ threshold_state_count width.number }
-    ensures { IfOk result (λ node. node ≡ threshold_value_node leaf.now width.number b p) }
+fn value_node(alloc: Global, bounded: &BoundedLeaf<'_>, b: bool, p: u16) -> Result<Node, NoMemory>
+    requires leader { p < span_of bounded.now.width.number }
+    ensures { IfOk result (λ node. node ≡ threshold_value_node bounded.now.leaf.now bounded.now.width.number b p) }
 {
-    let values = values(alloc, width, b)?;
-    let alone = signed(width, b, p);
+    let values = values(alloc, bounded.width, b)?;
+    let alone = signed(bounded.width, b, p);
     let multipliers = multipliers(
         alloc,
-        leaf,
+        bounded.leaf,
         p,
         values.as_slice(),
         0,
@@ -73,88 +72,70 @@ fn value_node(alloc: Global, leaf: &Leaf, width: Width, b: bool, p: u16) -> Resu
 }
 
 /// All states with a wrong output are ruled out.
-fn wrong_node(
-    alloc: Global,
-    leaf: &Leaf,
-    width: Width,
-    t: u16,
-    b: bool,
-    p: u16,
-) -> Result<Node, NoMemory>
-    requires leader { p < span_of width.number }
-    requires states { length leaf.now.states ≡ threshold_state_count width.number }
-    requires outputs { leaf.now.outputs ≡ map (threshold_output width.number t) (range_with_len 0 (threshold_state_count width.number)) }
-    ensures { IfOk result (λ node. node ≡ threshold_wrong_node leaf.now b p) }
+fn wrong_node(alloc: Global, bounded: &BoundedLeaf<'_>, b: bool, p: u16) -> Result<Node, NoMemory>
+    requires leader { p < span_of bounded.now.width.number }
+    ensures { IfOk result (λ node. node ≡ threshold_wrong_node bounded.now.leaf.now b p) }
 {
-    let none = vec![in alloc; 0i64; usize::from(3 * span(width))]?;
-    let signs = signs(alloc, width, t, b)?;
-    let multipliers = multipliers(alloc, leaf, p, none.as_slice(), 1, 0, signs.as_slice(), 0)?;
+    let none = vec![in alloc; 0i64; usize::from(3 * span(bounded.width))]?;
+    let signs = signs(alloc, bounded.width, bounded.bound, b)?;
+    let multipliers = multipliers(
+        alloc,
+        bounded.leaf,
+        p,
+        none.as_slice(),
+        1,
+        0,
+        signs.as_slice(),
+        0,
+    )?;
     weighed(alloc, multipliers.as_slice())
 }
 
-fn leader_node(
-    alloc: Global,
-    leaf: &Leaf,
-    width: Width,
-    t: u16,
-    b: bool,
-    p: u16,
-) -> Result<Node, NoMemory>
-    requires leader { p < span_of width.number }
-    requires states { length leaf.now.states ≡ threshold_state_count width.number }
-    requires outputs { leaf.now.outputs ≡ map (threshold_output width.number t) (range_with_len 0 (threshold_state_count width.number)) }
-    ensures { IfOk result (λ node. node ≡ threshold_leader_node leaf.now width.number t b p) }
+fn leader_node(alloc: Global, bounded: &BoundedLeaf<'_>, b: bool, p: u16) -> Result<Node, NoMemory>
+    requires leader { p < span_of bounded.now.width.number }
+    ensures { IfOk result (λ node.
+        node ≡ threshold_leader_node bounded.now.leaf.now bounded.now.width.number bounded.now.bound b p) }
 {
-    if output(width, t, p) == b {
-        wrong_node(alloc, leaf, width, t, b, p)
+    if output(bounded.width, bounded.bound, p) == b {
+        wrong_node(alloc, bounded, b, p)
     } else {
-        value_node(alloc, leaf, width, b, p)
+        value_node(alloc, bounded, b, p)
     }
 }
 
 /// The nodes of all leaders, in order.
-fn ends(alloc: Global, leaf: &Leaf, width: Width, t: u16, b: bool) -> Result<Vec<Node>, NoMemory>
-    requires states { length leaf.now.states ≡ threshold_state_count width.number }
-    requires outputs { leaf.now.outputs ≡ map (threshold_output width.number t) (range_with_len 0 (threshold_state_count width.number)) }
+fn ends(alloc: Global, bounded: &BoundedLeaf<'_>, b: bool) -> Result<Vec<Node>, NoMemory>
     ensures { IfOk result (λ nodes.
-        nodes.items ≡ map (threshold_leader_node leaf.now width.number t b) (range_with_len 0 (span_of width.number))) }
+        nodes.items ≡ map (threshold_leader_node bounded.now.leaf.now bounded.now.width.number bounded.now.bound b)
+        (range_with_len 0 (span_of bounded.now.width.number))) }
 {
     let mut nodes = Vec::new(alloc);
-    for p in 0..span(width) {
-        nodes.push(leader_node(alloc, leaf, width, t, b, p)?)?;
+    for p in 0..span(bounded.width) {
+        nodes.push(leader_node(alloc, bounded, b, p)?)?;
     }
     Ok(nodes)
 }
 
 /// The tree for b.
-fn leaf_tree(
-    alloc: Global,
-    leaf: &Leaf,
-    width: Width,
-    t: u16,
-    b: bool,
-) -> Result<List<Node>, NoMemory>
-    requires states { length leaf.now.states ≡ threshold_state_count width.number }
-    requires outputs { leaf.now.outputs ≡ map (threshold_output width.number t) (range_with_len 0 (threshold_state_count width.number)) }
-    ensures { IfOk result (λ nodes. nodes ≡ threshold_tree leaf.now width.number t b) }
+fn leaf_tree(alloc: Global, bounded: &BoundedLeaf<'_>, b: bool) -> Result<List<Node>, NoMemory>
+    ensures { IfOk result (λ nodes.
+        nodes ≡ threshold_tree bounded.now.leaf.now bounded.now.width.number bounded.now.bound b) }
 {
-    let nodes = ends(alloc, leaf, width, t, b)?;
-    tree(alloc, leaf, nodes)
+    let nodes = ends(alloc, bounded, b)?;
+    tree(alloc, bounded.leaf, nodes)
 }
 
 /// The trees for true and for false.
 pub(crate) fn both_trees(
     alloc: Global,
-    leaf: &Leaf,
-    width: Width,
-    t: u16,
+    bounded: &BoundedLeaf<'_>,
 ) -> Result<(List<Node>, List<Node>), NoMemory>
-    requires states { length leaf.now.states ≡ threshold_state_count width.number }
-    requires outputs { leaf.now.outputs ≡ map (threshold_output width.number t) (range_with_len 0 (threshold_state_count width.number)) }
-    ensures on_true { IfOk result (λ both. both.0 ≡ threshold_tree leaf.now width.number t true) }
-    ensures on_false { IfOk result (λ both. both.1 ≡ threshold_tree leaf.now width.number t false) }
+    ensures on_true { IfOk result (λ both.
+        both.0 ≡ threshold_tree bounded.now.leaf.now bounded.now.width.number bounded.now.bound true) }
+    ensures on_false { IfOk result (λ both.
+        both.1 ≡ threshold_tree bounded.now.leaf.now bounded.now.width.number bounded.now.bound false) }
 {
-    let on_true = leaf_tree(alloc, leaf, width, t, true)?;
-    let on_false = leaf_tree(alloc, leaf, width, t, false)?;
+    let on_true = leaf_tree(alloc, bounded, true)?;
+    let on_false = leaf_tree(alloc, bounded, false)?;
     Ok((on_true, on_false))
 }

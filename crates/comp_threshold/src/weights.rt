@@ -1,6 +1,6 @@
 //! The layers of a leaf.
 
-ghost use Rattle.std.specs.Prelude.{◌≡◌, ◌≤◌, map, IfOk};
+ghost use Rattle.std.specs.Prelude.{◌≡◌, map, IfOk};
 ghost use Rattle.comp_threshold.specs.ThresholdProof.{threshold_distance, threshold_first_weight};
 ghost use Rattle.comp_threshold.specs.ThresholdProof.{threshold_false_weight, threshold_true_weight, threshold_weights};
 ghost use Rattle.comp_threshold.specs.ThresholdProof.{threshold_layers};

@@ -8,6 +8,7 @@ ghost use Rattle.pres_ast.specs.PredModel.{IsAtomSum};
 ghost use Rattle.comp_threshold.specs.ThresholdLeaf.{threshold_leaf_of, threshold_width};
 ghost use Rattle.comp_threshold.specs.Built.{IsThreshold, BuildsThreshold};
 
+use crate::bounded::BoundedLeaf;
 use crate::building::threshold_leaf;
 use crate::fault::ThresholdFault;
 use crate::limits::WIDTH_LIMIT;
@@ -51,7 +52,12 @@ fn leaf_proof(
     let t = place(width, bound);
     let pred = less(alloc, coefs, bound)?;
     let layers = leaf_layers(alloc, leaf, width)?;
-    let (on_true, on_false) = both_trees(alloc, leaf, width, t)?;
+    let bounded = BoundedLeaf {
+        leaf,
+        width,
+        bound: t,
+    };
+    let (on_true, on_false) = both_trees(alloc, &bounded)?;
     Ok(LeafProof {
         pred,
         layers,

@@ -12,18 +12,18 @@ use Rattle.comp_threshold.proofs.node.value_node.Goals as goal
 
 pub multipliers-requires-clause-flows : goal.multipliers-requires-clause-flows
 multipliers-requires-clause-flows c =
-    ap length (c.as_slice.ensures.value ∙ c.in_ok-values.ensures) ∙ length-map-range_with_len (signed_value c.args.b c.args.width.number) 0 (threshold_state_count c.args.width.number) ∙ sym c.requires.states
+    ap length (c.as_slice.ensures.value ∙ c.in_ok-values.ensures) ∙ length-map-range_with_len (signed_value c.args.b c.args.bounded.now.width.number) 0 (threshold_state_count c.args.bounded.now.width.number) ∙ sym c.args.bounded.now.states
 
 pub multipliers-requires-clause-out : goal.multipliers-requires-clause-out
 multipliers-requires-clause-out c =
-    ap length (c.as_slice-2.ensures.value ∙ c.in_ok-values.ensures) ∙ length-map-range_with_len (signed_value c.args.b c.args.width.number) 0 (threshold_state_count c.args.width.number) ∙ sym c.requires.states
+    ap length (c.as_slice-2.ensures.value ∙ c.in_ok-values.ensures) ∙ length-map-range_with_len (signed_value c.args.b c.args.bounded.now.width.number) 0 (threshold_state_count c.args.bounded.now.width.number) ∙ sym c.args.bounded.now.states
 
 pub returns : goal.returns
 returns c =
-    let leaf = c.args.leaf.now in
+    let leaf = c.args.bounded.now.leaf.now in
     let p = c.args.p in
-    let value = signed_value c.args.b c.args.width.number in
-    let range = ap (λ n. map value (range_with_len 0 n)) (sym c.requires.states) in
+    let value = signed_value c.args.b c.args.bounded.now.width.number in
+    let range = ap (λ n. map value (range_with_len 0 n)) (sym c.args.bounded.now.states) in
     let first = c.as_slice.ensures.value ∙ c.in_ok-values.ensures ∙ range in
     let second = c.as_slice-2.ensures.value ∙ c.in_ok-values.ensures ∙ range in
     let mix = listed_mix leaf p value value (pos 0) (pos 1) (value p) c.as_slice.result.now c.as_slice-2.result.now first second in

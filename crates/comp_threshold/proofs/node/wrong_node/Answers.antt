@@ -21,15 +21,15 @@ signs-are s t b outputs n e f =
 
 pub multipliers-requires-clause-out : goal.multipliers-requires-clause-out
 multipliers-requires-clause-out c =
-    ap length (c.as_slice-2.ensures.value ∙ c.in_ok-signs.ensures) ∙ length-map-range_with_len (wrong_sign c.args.width.number c.args.t c.args.b) 0 (threshold_state_count c.args.width.number) ∙ sym c.requires.states
+    ap length (c.as_slice-2.ensures.value ∙ c.in_ok-signs.ensures) ∙ length-map-range_with_len (wrong_sign c.args.bounded.now.width.number c.args.bounded.now.bound c.args.b) 0 (threshold_state_count c.args.bounded.now.width.number) ∙ sym c.args.bounded.now.states
 
 pub returns : goal.returns
 returns c =
-    let leaf = c.args.leaf.now in
+    let leaf = c.args.bounded.now.leaf.now in
     let p = c.args.p in
     let sign : ℕ → ℤ = λ q. neg_ℤ (indicator (differs c.args.b (get_or leaf.outputs q false))) in
     let e = c.in_ok-none.ensures in
-    let first : c.as_slice.result.now ≡ map (λ (q : ℕ). pos 0) (states_of leaf) = c.as_slice.ensures.value ∙ e.items_if_clones_equal (λ y h. h) ∙ ap (λ n. replicate n (pos 0)) (let k : c.from.result ≡ length leaf.states = omega (arith, c.requires.states) in k) ∙ sym (range-constant (pos 0) 0 (length leaf.states)) in
-    let second = c.as_slice-2.ensures.value ∙ c.in_ok-signs.ensures ∙ signs-are c.args.width.number c.args.t c.args.b leaf.outputs (length leaf.states) c.requires.states c.requires.outputs in
+    let first : c.as_slice.result.now ≡ map (λ (q : ℕ). pos 0) (states_of leaf) = c.as_slice.ensures.value ∙ e.items_if_clones_equal (λ y h. h) ∙ ap (λ n. replicate n (pos 0)) (let k : c.from.result ≡ length leaf.states = omega (arith, c.args.bounded.now.states) in k) ∙ sym (range-constant (pos 0) 0 (length leaf.states)) in
+    let second = c.as_slice-2.ensures.value ∙ c.in_ok-signs.ensures ∙ signs-are c.args.bounded.now.width.number c.args.bounded.now.bound c.args.b leaf.outputs (length leaf.states) c.args.bounded.now.states c.args.bounded.now.outputs in
     let mix = listed_mix leaf p (λ (q : ℕ). pos 0) sign (pos 1) (pos 0) (pos 0) c.as_slice.result.now c.as_slice-2.result.now first second in
     IfOk-weaker c.weighed.result _ _ (λ node h. h ∙ ap weighed_node (c.as_slice-3.ensures.value ∙ c.in_ok-multipliers.ensures.mix ∙ mix)) c.weighed.ensures

@@ -15,12 +15,12 @@ place-t-requires c =
     let w = c.requires.exact in
     omega (arith, ap nat_abs same, wide, w)
 
-pub both_trees-requires-clause-states : goal.both_trees-requires-clause-states
-both_trees-requires-clause-states c =
+pub invariant_of-bounded-clause-states : goal.invariant_of-bounded-clause-states
+invariant_of-bounded-clause-states c =
     states-are c.args.coefs.now c.args.bound c.args.width.number c.args.leaf.now c.requires.exact c.requires.built
 
-pub both_trees-requires-clause-outputs : goal.both_trees-requires-clause-outputs
-both_trees-requires-clause-outputs c =
+pub invariant_of-bounded-clause-outputs : goal.invariant_of-bounded-clause-outputs
+invariant_of-bounded-clause-outputs c =
     let fits : SFits w64 c.args.bound = search rules in
     outputs-are c.args.coefs.now c.args.bound c.args.width.number c.place-t.result c.args.leaf.now c.requires.exact (c.place-t.ensures ∙ ap (place_of_value c.args.width.number) (to_z-of_z w64 c.args.bound fits)) c.requires.built
 
