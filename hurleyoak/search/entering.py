@@ -5,7 +5,7 @@ with fewer moves, and with nothing dead.
 """
 from __future__ import annotations
 
-from typing import Iterator, Sequence
+from typing import Iterator, Self, Sequence
 
 import numpy as np
 
@@ -39,7 +39,7 @@ class Entering(Lemmas):
         super().__init__(cases, base, limit, exact)
         self.tried_sets: dict[Key, Entered | None] = {}
 
-    def below(self, entered: Entered, branch: Sequence[Item], limit: Limit) -> "Entering":
+    def below(self, entered: Entered, branch: Sequence[Item], limit: Limit) -> Self:
         """A search in the entries of a set, below a branch with these facts."""
         raise NotImplementedError
 

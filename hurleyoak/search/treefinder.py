@@ -11,8 +11,9 @@ from ..proof.bundles import Goal, Hole, Tree
 from .branch import FLOATS, GaveUp, WrongEnd, greatest_number
 from ..proof.items import Case, Cases
 from .entering import DEEPEST
+from .given import Prover
 from .limits import Limit, clock
-from .search import Prover, Way
+from .search import Way
 from .shrinking import shrunk
 from .solver import Trouble
 from .tightening import tightened

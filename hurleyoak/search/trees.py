@@ -82,9 +82,7 @@ def ending(kind: Sum | RestSum) -> Grown:
     return Grown(kind, used=frozenset(used))
 
 
-def grown(
-    kind: Kind, cases: list[tuple[Case, Grown]], keep: bool = False, entered: Entered | None = None
-) -> Grown:
+def grown(kind: Kind, cases: list[tuple[Case, Grown]], keep: bool = False, entered: Entered | None = None) -> Grown:
     """The node; or, unless it is to be kept, the smallest tree of a case that does without the case's facts."""
     free = [sub for items, sub in cases if sub.used.isdisjoint(items)]
     if free and not keep:

@@ -37,7 +37,9 @@ def find_all(given: Given, found: list[dict[str, int]], text: str) -> int:
     """Prints the table as it comes, or writes it; 4 where a member isn't certified."""
     for option in ONE_ALONE:
         if given.has(option):
-            raise UsageFault(f"`{option}` is for one protocol: `{WITH} {member_name(found[0])}` chooses one of the family")
+            raise UsageFault(
+                f"`{option}` is for one protocol: `{WITH} {member_name(found[0])}` chooses one of the family"
+            )
     path, lines = given.text("--output"), []
     widths = [max(len(HEAD[0]), *(len(member_name(values)) for values in found)), *map(len, HEAD[1:])]
     status = DONE
