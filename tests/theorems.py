@@ -18,15 +18,7 @@ DATA = re.compile(r"(?:[ ()ℕ]|List|Meeting|Take|Bundle|Last|Journal|RunSpec|Pr
 FUNCTION = re.compile(r"^( *)pub (?:unsafe )?fn (\w+)")
 CLAUSE = re.compile(r"^ *ensures (?:([\w]+) )?\{ ?")
 NO_PART_OF_THE_PROGRAM = {"sample_nets"}
-HEADLINE = (
-    "Headline",
-    "CheckSays",
-    "IsShownLine",
-    "RunSays",
-    "SettleSays",
-    "IsHeldInput",
-    "CompileSays",
-)
+HEADLINE = ("Headline", "CheckSays", "IsShownLine", "RunSays", "SettleSays", "IsHeldInput", "CompileSays")
 PROMISES = (
     ("the whole input was read, or the fault has its cause", "read_all"),
     ("the whole text was written, or a prefix of it and the fault has its cause", "write_all"),

@@ -14,7 +14,7 @@ from hurleyoak.engine.places import TOP
 from hurleyoak.proof.bundles import First, Node, Part
 from hurleyoak.protocol.nets import compact
 from hurleyoak.search.finding import find
-from hurleyoak.search.jobs import processors
+from hurleyoak.search.processes import processors
 from . import own_protocols as own
 from . import protocols as p
 from .making import Case
@@ -76,9 +76,7 @@ def measured(row: dict[str, Any], seconds: float) -> str:
     found = find(loaded, seconds, 0.3, processors())
     true, false = _trees(found.bundle.proof[0] if found.bundle is not None else None)
     took = round(sum(result.seconds for result in found.done.values()), 1)
-    return "\t".join(
-        map(str, (row["name"], len(leaf.states), len(leaf.active), result_of(found), true, false, took))
-    )
+    return "\t".join(map(str, (row["name"], len(leaf.states), len(leaf.active), result_of(found), true, false, took)))
 
 
 def table() -> str:

@@ -16,7 +16,7 @@ from hurleyoak.engine.places import TOP
 from hurleyoak.proof.bundles import Goal, LeafGoals
 from hurleyoak.protocol.nets import net_of
 from hurleyoak.search.finding import Outcome, find
-from hurleyoak.search.jobs import processors
+from hurleyoak.search.processes import processors
 from hurleyoak.text.loaded import LoadedNet
 
 NETS = TOP / "bench" / "finder" / "stable.jsonl"

@@ -17,7 +17,7 @@ from hurleyoak.protocol.nets import Leaf, Move, Net, is_silent
 from hurleyoak.protocol.predicatereader import read_predicate
 from hurleyoak.search.explore import explore
 from hurleyoak.search.goals import NoGoal, find_goal
-from hurleyoak.search.jobs import deep
+from hurleyoak.search.processes import deep
 from hurleyoak.search.limits import clock
 from .stable import loaded_of, rows
 

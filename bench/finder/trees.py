@@ -12,7 +12,7 @@ from pathlib import Path
 from typing import Iterable
 
 from hurleyoak.text.loaded import LoadedNet
-from hurleyoak.search.jobs import deep
+from hurleyoak.search.processes import deep
 from hurleyoak.search.treefinder import find_tree
 from hurleyoak.search.limits import clock
 from .families import small_nets

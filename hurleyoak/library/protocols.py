@@ -103,7 +103,7 @@ class Protocol:
         """Looks for a proof, which the program certifies, and for a counterexample, which it plays."""
         _ready()
         from ..search.finding import find
-        from ..search.jobs import processors
+        from ..search.processes import processors
         from ..show.telling import failure_told
 
         outcome = find(self._loaded, seconds, SMALLER, jobs or processors())

@@ -13,7 +13,8 @@ from ..proof.bundles import Bundle, LeafGoals, LeafProof, Part
 from .flaws import Flaw
 from .howfar import Going
 from .goaltasks import leaf_tasks, look_for_goals
-from .jobs import FALSE, FLAW, GOAL_FALSE, GOAL_TRUE, LAYERS, TRUE, WHOLE, Result, Task, TaskKind, Why, results, work
+from .jobs import FALSE, FLAW, GOAL_FALSE, GOAL_TRUE, LAYERS, TRUE, WHOLE, Result, Task, TaskKind, Why, work
+from .processes import results
 
 ORDER = (
     Why.MISSES,

@@ -11,7 +11,8 @@ from ..text.files import load
 from ..text.loaded import Loaded, strict_bundle
 from ..text.saving import with_proof
 from ..search.howfar import Going
-from ..search.jobs import Result, Task, processors
+from ..search.jobs import Result, Task
+from ..search.processes import processors
 from ..engine.inputs import Asked
 from ..proof.bundles import Bundle
 from ..text.scanner import TextFault

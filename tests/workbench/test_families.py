@@ -55,7 +55,9 @@ def test_a_sweep_goes_over_all_members(tmp_path: Path) -> None:
     assert "majority t=0" in table and "majority t=1" in table
 
 
-@pytest.mark.parametrize("words", [("check",), ("draw", "--text"), ("play", "x=3"), ("explain",), ("bundle",)], ids=str)
+@pytest.mark.parametrize(
+    "words", [("check",), ("draw", "--text"), ("play", "x=3"), ("explain",), ("bundle",)], ids=str
+)
 def test_commands_of_one_protocol_say_how_a_member_is_written(words: tuple[str, ...]) -> None:
     """A family isn't read as a move that lacks its `+`."""
     from .test_commands import pop

@@ -200,7 +200,11 @@ def test_refused_json() -> None:
 @pytest.mark.parametrize(
     "old, new, told",
     [
-        ("by [2 + 2 -> 4 + 0]", "by [1 + 1 -> 2 + 0]", "expected `by [2 + 2 -> 4 + 0]:`, the next case of `first {4}`"),
+        (
+            "by [2 + 2 -> 4 + 0]",
+            "by [1 + 1 -> 2 + 0]",
+            "expected `by [2 + 2 -> 4 + 0]:`, the next case of `first {4}`",
+        ),
         ("by [2 + 2 -> 4 + 0]", "by [2 + 1 -> 4 + 0]", "is no move of this leaf"),
         ("    starts: lin starts{4}\n", "", "expected `starts:`, the next case of `first {4}`"),
     ],

@@ -18,7 +18,7 @@ HEAD = ("member", "states", "moves", "seconds", "answer")
 def _answer(given: Given, values: dict[str, int], text: str) -> tuple[str, ...]:
     """The row of a member."""
     from ...search.finding import find
-    from ...search.jobs import processors
+    from ...search.processes import processors
 
     loaded = load_member(text, values, named(given.path))
     begun = time.time()

@@ -35,7 +35,7 @@ def run(given: Given) -> int:
     warn([ASSUMES] if loaded.assumed else [], loaded.name)
     original = savable(given) if given.has("--save") else ""
     from ...search.finding import find
-    from ...search.jobs import processors
+    from ...search.processes import processors
 
     def found_of(one: Loaded, is_anew: bool = False) -> "Outcome":
         return find(
