@@ -24,7 +24,7 @@ from hurleyoak.text.saving import with_proof
 from hurleyoak.text.writer import text_of
 
 from .changes import changed
-from .conftest import CHANGES, EXAMPLES, needs_program
+from .conftest import CHANGES, EXAMPLES, bundle_at, needs_program
 from .test_recheck import second
 
 FLOCK = EXAMPLES / "found" / "flock-that-gives-back.pop"
@@ -117,6 +117,22 @@ def test_entries_dropped_and_exchanged() -> None:
     for term in lin.terms:
         fewer = Linear(tuple(t for t in lin.terms if t != term))
         assert verdict(_with_false(bundle, [*nodes[:2], fewer, *nodes[3:]])) == "rejected leaf 0 false 2 not-closed"
+
+
+@pytest.mark.parametrize(
+    "name, sentence",
+    [
+        ("first-missing", "`[4 + 0 -> 4 + 2]` is still positive"),
+        ("first-end-fact", "there is no fact 13"),
+        ("first-entered", "the constant is 1, and has to be -1 or less"),
+        ("first-no-twin", "every move may be possible still"),
+    ],
+)
+def test_what_is_missing_before_an_entry_is_said(name: str, sentence: str) -> None:
+    """An entry without a case, a fact counted as at the end, a set that can be entered, and a crowd not at its end."""
+    bundle = bundle_at(EXAMPLES / "rejected" / f"{name}.json")
+    told = drawn(explain(load(bundle.line(), "f"), bundle, verdict(bundle)))
+    assert ">>> refused" in told and sentence in told
 
 
 def test_seeded_changes_are_read_alike_by_both_readings() -> None:
