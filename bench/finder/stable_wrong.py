@@ -84,11 +84,8 @@ def is_wrong(net: Net, text: str, agents: int) -> bool:
     return flaw is not None
 
 
-def made(rng: random.Random, known: list[tuple[Net, str]]) -> tuple[str, Net, str] | None:
-    """A net with its kind and predicate; None where a random one computes nothing that is asked for."""
-    if rng.random() < 0.5:
-        net, text = rng.choice(known)
-        return "changed", changed(net, rng), text
+def random_one(rng: random.Random) -> tuple[str, Net, str] | None:
+    """A random net with a predicate; None where it computes nothing that is asked for."""
     net = randomly(rng)
     if not net.leaves[0].moves:
         return None
@@ -96,6 +93,14 @@ def made(rng: random.Random, known: list[tuple[Net, str]]) -> tuple[str, Net, st
     if not fits and rng.random() > 0.03:
         return None
     return "random", net, fits[0] if fits else rng.choice(PREDICATES)
+
+
+def made(rng: random.Random, known: list[tuple[Net, str]]) -> tuple[str, Net, str] | None:
+    """A net with its kind and predicate; None where a random one computes nothing that is asked for."""
+    if rng.random() < 0.5:
+        net, text = rng.choice(known)
+        return "changed", changed(net, rng), text
+    return random_one(rng)
 
 
 def shown(net: Net, text: str) -> bool:

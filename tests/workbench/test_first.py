@@ -20,6 +20,7 @@ from hurleyoak.show.explaining import explain
 from hurleyoak.show.values import explanation_value
 from hurleyoak.text.files import load
 from hurleyoak.text.loaded import Loaded, LoadedNet, strict_bundle
+from hurleyoak.text.membersof import load_member
 from hurleyoak.text.saving import with_proof
 from hurleyoak.text.writer import text_of
 
@@ -277,6 +278,16 @@ def test_a_saved_proof_has_the_ends_of_lines_of_its_text() -> None:
     text = FLOCK.read_text().replace("\n", "\r\n")
     made = with_proof(text.split("layer ")[0], bundle_in(FLOCK))
     assert made.count("\n") == made.count("\r\n") > 20 and strict_bundle(load(made, "f")) == bundle_in(FLOCK)
+
+
+def test_a_member_of_a_family_with_what_is_assumed() -> None:
+    """Sets of states that are numbers stand in two pairs of braces."""
+    text = FLOCK.read_text().replace("computes  x >= 4", "computes  x >= {c}").replace("{4}", "{{4}}")
+    family = "family c in 4..5\nassume x + y >= 3\n" + text
+    four, five = (load_member(family, {"c": c}, "f") for c in (4, 5))
+    assert verdict(strict_bundle(four)) == "certified 3" and not four.meets((1, 1)) and four.meets((2, 1))
+    assert verdict(strict_bundle(five)) == "rejected leaf 0 false 2 not-closed"
+    assert strict_bundle(four).proof == bundle_in(FLOCK).proof
 
 
 def test_what_is_written_is_kept() -> None:
