@@ -29,7 +29,7 @@ from . import own_protocols as own
 from . import protocols as p
 from .entries import rows
 from .stable import loaded_of
-from .stable_wrong import changed, random_one, told
+from .stable_wrong import PREDICATES, changed, random_one, randomly, told
 
 RESULTS = TOP / "bench" / "results" / "entries_wrong.txt"
 COUNT, SEED = 500, 1
@@ -62,7 +62,7 @@ def early(net: Net, rng: random.Random) -> Net:
 
 
 def asked(rng: random.Random, changes: list[tuple[Net, str]], tops: list[tuple[Net, str]]) -> Asked | None:
-    """A net with its kind and predicate; None where a random one computes nothing that is asked for."""
+    """A net with its kind and predicate; None where a random one has no moves."""
     kind = rng.randrange(3)
     if kind == 0:
         net, text = rng.choice(tops)
@@ -70,7 +70,8 @@ def asked(rng: random.Random, changes: list[tuple[Net, str]], tops: list[tuple[N
     if kind == 1:
         net, text = rng.choice(changes)
         return "changed", changed(net, rng), text
-    return random_one(rng)
+    net = randomly(rng)
+    return random_one(rng) or (("random", net, rng.choice(PREDICATES)) if net.leaves[0].moves else None)
 
 
 def has_tree(leaf: Leaf, tree: Predicate, value: bool) -> bool:

@@ -3,6 +3,7 @@ from __future__ import annotations
 
 import json
 import random
+from itertools import islice
 from pathlib import Path
 
 import pytest
@@ -188,17 +189,16 @@ def test_random_trees_are_read_alike_and_written() -> None:
         assert strict_bundle(load(text_of(other.net, other), "f")) == other
 
 
-def test_what_is_refused_is_opened_to_be_found() -> None:
-    """`--mend` puts `?` in the place of the node in an entry, and finds it anew."""
+@pytest.mark.parametrize("name, place", [("missing", 1), ("end-fact", 0), ("entered", 1), ("no-twin", 0)])
+def test_what_is_refused_is_opened_to_be_found(name: str, place: int) -> None:
+    """`--mend` puts `?` in the place of the node in an entry, or of `first`, and finds it anew."""
     pytest.importorskip("scipy")
     from hurleyoak.search.finding import find
     from hurleyoak.search.mending import _open, openings
 
-    bundle = bundle_in(FLOCK)
-    nodes = list(bundle.proof[0].tree(False))
-    broken = _with_false(bundle, [*nodes[:2], Linear(()), *nodes[3:]])
-    drafts = next(openings(broken, verdict(broken)))
-    found = find(_open(load(FLOCK.read_text(), "f"), broken, drafts), 20.0, 0.0, 1)
+    broken = bundle_at(EXAMPLES / "rejected" / f"first-{name}.json")
+    for drafts in islice(openings(broken, verdict(broken)), place + 1):
+        found = find(_open(load(broken.line(), "f"), broken, drafts), 20.0, 0.0, 1)
     assert found.bundle is not None and verdict(found.bundle) == "certified 3"
 
 
