@@ -35,7 +35,7 @@ RESULTS = TOP / "bench" / "results" / "entries_wrong.txt"
 COUNT, SEED = 500, 1
 AGENTS = 6
 SMALL_STATES = 8
-FLAW_SECONDS, TREE_SECONDS, GOAL_SECONDS = 0.5, 0.4, 0.4
+FLAW_SECONDS, TREE_SECONDS, GOAL_SECONDS = 0.5, 0.2, 0.2
 TOLD = 20  # wrong nets between two lines
 
 Asked = tuple[str, Net, str]
