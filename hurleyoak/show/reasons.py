@@ -159,12 +159,12 @@ def node_lacks(
 
 
 def entries_told(names: Names, space: Space, node: First) -> list[str]:
-    """What `first` says of the moves that enter its set, in sentences."""
+    """What `first` has to show of the moves that enter its set, in sentences."""
     text = names.braces(node.states)
     moves = space.entering(node.states)
     if not moves:
         return [f"no move brings an agent into {text} from outside"]
-    lines = [f"nobody can come into {text} first: each move that brings somebody in needs agents that aren't there"]
+    lines = [f"to show: nobody can come into {text} first, as each move into it needs agents that aren't there"]
     lines += [f"`{names.move(t)}` needs {_needed(names, t)}, with nobody in {text} before" for t in moves[:SHOWN]]
     lines += [f"and so on for {len(moves) - SHOWN} more moves"] if len(moves) > SHOWN else []
     return [*lines, "the cases of these moves speak of the crowd before, and count their facts anew"]

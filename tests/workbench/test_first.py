@@ -238,7 +238,7 @@ def test_what_is_explained() -> None:
     bundle = bundle_in(FLOCK)
     told = explain(load(FLOCK.read_text(), "f"), bundle, "certified 3")
     text = drawn(told)
-    assert "nobody can come into {4} first: each move that brings somebody in needs agents that aren't there" in text
+    assert "to show: nobody can come into {4} first, as each move into it needs agents that aren't there" in text
     assert "`2 + 2 -> 4 + 0` needs two agents in 2, with nobody in {4} before" in text
     nodes = explanation_value(told)["leaves"][0]["false"]
     assert nodes[2]["label"] == "by [2 + 2 -> 4 + 0]" and nodes[2]["facts"][0][0] == 0
