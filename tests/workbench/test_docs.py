@@ -71,13 +71,14 @@ def test_the_counterexample_is_what_find_prints() -> None:
 
 
 @needs_program
-def test_the_order_of_moves_is_not_seen_and_the_mended_flock_is_found() -> None:
+def test_the_flock_that_gives_back_needs_first_and_the_mended_one_does_not() -> None:
     pytest.importorskip("scipy")
     block = next(b for b in blocks(CERTIFICATES) if "4 + 0 -> 4 + 2" in b)
     text = "inputs x: 1  y: 0\n" + block + "yes 4\ncomputes x >= 4\n"
     run = pop("find", text=text)
-    assert run.returncode == program.UNDECIDED and "candidate for a wrong end" in run.stderr
-    assert pop("find", text=text.replace("4 + 0 -> 4 + 2", "4 + 0 -> 4 + 4")).returncode == program.DONE
+    assert run.returncode == program.DONE and '["first",[3]]' in run.stdout
+    mended = pop("find", text=text.replace("4 + 0 -> 4 + 2", "4 + 0 -> 4 + 4"))
+    assert mended.returncode == program.DONE and "first" not in mended.stdout
 
 
 def test_the_limits_of_the_documents() -> None:
