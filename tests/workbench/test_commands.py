@@ -24,6 +24,21 @@ def pop(*words: str, text: str = "", folder: Path = TOP) -> "subprocess.Complete
     return subprocess.run([POP, *words], input=text, capture_output=True, text=True, cwd=folder, check=False)
 
 
+WITHOUT_FIRST = """
+import hurleyoak.search.jobs as jobs
+from hurleyoak.cli.commands import main
+jobs._by_entries = lambda *_: False
+raise SystemExit(main(["find", "--jobs", "1"]))
+"""
+
+
+def find_without_first(text: str) -> "subprocess.CompletedProcess[str]":
+    """`find` of a text as if there were no node `first`: what it says of a candidate that it can't exclude."""
+    return subprocess.run(
+        ["/usr/bin/python3", "-c", WITHOUT_FIRST], cwd=TOP, input=text, capture_output=True, text=True, check=False
+    )
+
+
 def test_net_bundle_and_text_from_any_folder(tmp_path: Path) -> None:
     source = (EXAMPLES / "epidemic" / "epidemic.pop").read_text()
     net = pop("net", text=source, folder=tmp_path)

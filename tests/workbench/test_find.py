@@ -21,7 +21,7 @@ from hurleyoak.protocol.predicates import Predicate, value_at
 from hurleyoak.proof.bundles import Bundle, First, Layer, LeafProof, Node, Present, Siphon, Split, Trap, Twin
 
 from .conftest import CHANGES, EXAMPLES, bundle_at, example_paths, needs_program
-from .test_commands import pop
+from .test_commands import find_without_first, pop
 from .test_files import nets
 
 pytest.importorskip("scipy")
@@ -380,7 +380,7 @@ def test_a_way_that_needs_a_hidden_move() -> None:
 
 @needs_program
 def test_neither_found() -> None:
-    run = pop("find", text=ORDER)
+    run = find_without_first(ORDER)
     assert run.returncode == program.UNDECIDED
     assert (
         "candidate for a wrong end" in run.stderr

@@ -14,7 +14,7 @@ from hurleyoak.protocol.nets import Net
 from hurleyoak.search.ordering import ordered
 
 from .conftest import needs_program
-from .test_commands import pop
+from .test_commands import find_without_first, pop
 from .test_files import nets
 
 pytest.importorskip("scipy")
@@ -76,7 +76,7 @@ def test_moves_without_an_order_are_told() -> None:
         "inputs x: 1  y: 0\n1 + 1 -> 2 + 0\n2 + 2 -> 4 + 0\n4 + 0 -> 4 + 2\n4 + 1 -> 4 + 4\n4 + 2 -> 4 + 4\nyes"
         " 4\ncomputes x >= 4\n"
     )
-    run = pop("find", text=text)
+    run = find_without_first(text)
     assert run.returncode == program.UNDECIDED
     assert (
         "\nNo order of these moves is possible: " in run.stderr
