@@ -6,7 +6,7 @@ ghost use Rattle.pair_workers.specs.OneRun.{IsOnlyRun};
 ghost use Rattle.pair_workers.specs.Ends.{AreFirstPickers, CanMakeRun, IsRunFrom};
 
 use crate::alone::{ROUND_TURNS, RunEnd};
-use crate::context::RoundContext;
+use crate::context::RunContext;
 use crate::ends::{end_of, goes_on};
 use crate::picker::Picker;
 use crate::round::next_round;
@@ -57,7 +57,12 @@ pub fn run_all<R: Threads + Wait + Sync, G: Gate>(
     let mut left = spec.turns;
     let mut layout = Layout::new(alloc);
     let table = PairTable::new(alloc, net)?;
-    let run = RoundContext { net, spec, gate };
+    let run = RunContext {
+        net,
+        rest: net,
+        spec,
+        gate,
+    };
     let mut last = None;
     'rounds: while goes_on(alloc, &table, &crowd, left, &mut last)? {
         let turns = ROUND_TURNS.min(left);

@@ -7,6 +7,7 @@ ghost use Rattle.pair_workers.specs.Played.{PlaysOn};
 ghost use Rattle.pair_workers.specs.Kept.{keeps_round};
 ghost use Rattle.pair_workers.specs.Ends.{CanMakeRun};
 
+use crate::context::RunContext;
 use crate::meet::meet_next;
 use crate::picker::Picker;
 use crate::run_loop::{RoundSink, run_into};
@@ -15,7 +16,6 @@ use pop_io::{Gate, List, NoMemory};
 use pop_net::Net;
 use pop_words::RunSpec;
 use std::alloc::Global;
-use terminal_test::PairTable;
 
 /// The most meetings of a worker in a round.
 pub const ROUND_TURNS: u64 = 4_096;
@@ -68,8 +68,13 @@ pub fn run_alone<G: Gate>(
     let mut kept = KeptRounds {
         rounds: Vec::new(alloc),
     };
-    let table = PairTable::new(alloc, net)?;
-    let (crowd, end) = run_into(alloc, net, &table, crowd, spec, gate, &mut kept)?;
+    let run = RunContext {
+        net,
+        rest: net,
+        spec,
+        gate,
+    };
+    let (crowd, end) = run_into(alloc, &run, crowd, &mut kept)?;
     let KeptRounds { rounds } = kept;
     Ok(RunEnd {
         rounds: List::from_vec(rounds),
@@ -81,21 +86,20 @@ pub fn run_alone<G: Gate>(
 /// So many meetings, one after the other.
 pub fn play_round<G: Gate>(
     alloc: Global,
-    net: &Net,
+    run: &RunContext<G>,
     crowd: &mut Crowd,
     picker: &mut Picker,
     turns: u64,
-    gate: &G,
 ) -> Result<Vec<Meeting>, NoMemory>
-    requires valid { AreValid net.now crowd.old }
+    requires valid { AreValid run.now.net.now crowd.old }
     requires few { turns ≤ ROUND_TURNS }
     ensures { IfOk result (λ log. (length log.items ≡ turns)
-        × PlaysOn net.now crowd.old crowd.new picker.old picker.new log.items) }
+        × PlaysOn run.now.net.now crowd.old crowd.new picker.old picker.new log.items) }
 {
     let mut log = Vec::with_capacity(alloc, turns as usize)?;
     'turns: for turn in 0..turns {
-        gate.pass(0, turn + 1);
-        log.push_reserved(meet_next(net, crowd, picker, 0));
+        run.gate.pass(0, turn + 1);
+        log.push_reserved(meet_next(run.net, crowd, picker, 0));
     }
     Ok(log)
 }

@@ -1,23 +1,28 @@
-//! What the rounds of a run have in common, and what the workers of a round do.
+//! What a run has from its beginning to its end, and what the workers of a round do.
 
 ghost use Rattle.pop_words.specs.Options.{IsWithinLimits};
+ghost use Rattle.pair_workers.specs.SameLanes.{HaveSameLanes};
 
 use crate::signals::Signals;
 use pop_net::Net;
 use pop_words::RunSpec;
 
-/// The net of a run's rounds, its options, and its gate.
-pub struct RoundContext<'a, G> {
+/// The net that a run's agents meet by, the net in which the run is over once its crowd is terminal, its options, and
+/// its gate.
+pub struct RunContext<'a, G> {
     pub net: &'a Net,
+    pub rest: &'a Net,
     pub spec: &'a RunSpec,
     pub gate: &'a G,
+    ghost lanes: { HaveSameLanes rest.now net.now },
     ghost limits: { IsWithinLimits spec.now },
 }
 
-impl<G> Drop for RoundContext<'_, G> {
+impl<G> Drop for RunContext<'_, G> {
     fn drop(self) {
-        let RoundContext {
+        let RunContext {
             net: _,
+            rest: _,
             spec: _,
             gate: _,
         } = self;

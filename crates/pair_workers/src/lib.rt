@@ -21,7 +21,7 @@ mod work;
 
 pub use all::{first_pickers, run_all};
 pub use alone::{End, KeptRounds, ROUND_TURNS, RunEnd, play_round, run_alone};
-pub use context::{RoundContext, Shift};
+pub use context::{RunContext, Shift};
 pub use ends::{end_of, goes_on};
 pub use examples::{pick_examples, run_examples};
 pub use meet::meet_next;

@@ -8,7 +8,7 @@ ghost use Rattle.pair_workers.specs.Turns.{CanMakeRound, IsRoundFrom, IsWholeRou
 ghost use Rattle.pair_workers.specs.Work.{MayWork, HasWorked, HaveWorked, agents_of_field};
 
 use crate::alone::play_round;
-use crate::context::{RoundContext, Shift};
+use crate::context::{RunContext, Shift};
 use crate::picker::Picker;
 use crate::round_end::RoundEnd;
 use crate::round_start::RoundStart;
@@ -56,7 +56,7 @@ fn work_beside<R: Threads + Wait + Sync, G: Gate>(
 fn field_round<R: Threads + Wait + Sync, G: Gate>(
     rt: &R,
     alloc: Global,
-    run: &RoundContext<G>,
+    run: &RunContext<G>,
     start: RoundStart,
     layout: &mut Layout,
 ) -> Result<RoundEnd, NoMemory>
@@ -109,19 +109,18 @@ fn field_round<R: Threads + Wait + Sync, G: Gate>(
 /// A round of one worker, on the plain crowd.
 fn plain_round<G: Gate>(
     alloc: Global,
-    net: &Net,
+    run: &RunContext<G>,
     start: RoundStart,
-    gate: &G,
 ) -> Result<RoundEnd, NoMemory>
-    requires { CanMakeRound net.now start.crowd 1 start.turns start.pickers.items }
-    ensures { IfOk result (IsWholeRound net.now start.crowd 1 start.turns start.pickers.items) }
+    requires { CanMakeRound run.now.net.now start.crowd 1 start.turns start.pickers.items }
+    ensures { IfOk result (IsWholeRound run.now.net.now start.crowd 1 start.turns start.pickers.items) }
 {
     let RoundStart {
         mut crowd,
         mut pickers,
         turns,
     } = start;
-    let meetings = play_round(alloc, net, &mut crowd, &mut pickers[0], turns, gate)?;
+    let meetings = play_round(alloc, run, &mut crowd, &mut pickers[0], turns)?;
     Ok(RoundEnd {
         crowd,
         pickers,
@@ -133,7 +132,7 @@ fn plain_round<G: Gate>(
 pub fn next_round<R: Threads + Wait + Sync, G: Gate>(
     rt: &R,
     alloc: Global,
-    run: &RoundContext<G>,
+    run: &RunContext<G>,
     start: RoundStart,
     layout: &mut Layout,
 ) -> Result<RoundEnd, NoMemory>
@@ -145,7 +144,7 @@ pub fn next_round<R: Threads + Wait + Sync, G: Gate>(
 {
     if run.spec.workers == 1 {
         layout.clear();
-        return plain_round(alloc, run.net, start, run.gate);
+        return plain_round(alloc, run, start);
     }
     field_round(rt, alloc, run, start, layout)
 }
@@ -184,7 +183,12 @@ pub fn run_round<R: Threads + Wait + Sync, G: Gate>(
         crowd: crowd.copy(alloc)?,
         turns,
     };
-    let run = RoundContext { net, spec, gate };
+    let run = RunContext {
+        net,
+        rest: net,
+        spec,
+        gate,
+    };
     let mut layout = Layout::new(alloc);
     let RoundEnd {
         crowd: end,

@@ -1,30 +1,20 @@
-//! What a run has from its beginning to its end.
+//! What the rounds of a run on threads have in common.
 
 ghost use Rattle.terminal_test.specs.TableNet.{table_net};
 ghost use Rattle.pair_workers.specs.SameLanes.{HaveSameLanes};
-ghost use Rattle.pop_words.specs.Options.{IsWithinLimits};
 
-use pop_net::Net;
-use pop_words::RunSpec;
+use pair_workers::RunContext;
 use terminal_test::PairTable;
 
-/// A run's net, the table of pairs that says where it ends, its options, and its gate.
-pub(crate) struct RunContext<'a, G> {
-    pub net: &'a Net,
+/// A run, and the table of pairs that says whether a crowd is terminal in its net `rest`.
+pub(crate) struct WatchContext<'a, G> {
+    pub run: &'a RunContext<'a, G>,
     pub table: &'a PairTable<'a>,
-    pub spec: &'a RunSpec,
-    pub gate: &'a G,
-    ghost lanes: { HaveSameLanes (table_net table.now) net.now },
-    ghost limits: { IsWithinLimits spec.now },
+    ghost lanes: { HaveSameLanes (table_net table.now) run.now.net.now },
 }
 
-impl<G> Drop for RunContext<'_, G> {
+impl<G> Drop for WatchContext<'_, G> {
     fn drop(self) {
-        let RunContext {
-            net: _,
-            table: _,
-            spec: _,
-            gate: _,
-        } = self;
+        let WatchContext { run: _, table: _ } = self;
     }
 }

@@ -7,7 +7,7 @@ ghost use Rattle.terminal_test.specs.TableNet.{table_net};
 ghost use Rattle.pair_workers.specs.CrowdSize.{IsCrowdSize};
 ghost use Rattle.pop_watch.specs.Work.{CanObserve};
 
-use crate::context::RunContext;
+use crate::context::WatchContext;
 use crate::limits::{LOOKS_A_ROUND, POLLS_A_LOOK};
 use agent_field::{Field, FieldSeat};
 use pair_workers::Shift;
@@ -45,12 +45,12 @@ fn seen_crowd<R: Wait>(
 fn look_on<R: Wait, G: Gate>(
     rt: &R,
     alloc: Global,
-    run: &RunContext<G>,
+    watch: &WatchContext<G>,
     field: &Field,
     seat: &mut FieldSeat,
     shift: &Shift<G>,
 ) -> Result<(), NoMemory>
-    requires { CanObserve run.now.net.now (table_net run.now.table.now) field.now shift.now.turns seat.old }
+    requires { CanObserve watch.now.run.now.net.now (table_net watch.now.table.now) field.now shift.now.turns seat.old }
     ensures { IsSeatOf field.now seat.new × KeepsLogs seat.old seat.new }
 {
     let turns = shift.turns;
@@ -60,9 +60,9 @@ fn look_on<R: Wait, G: Gate>(
         if turns <= shift.signals.turn_from(due, POLLS_A_LOOK) {
             return Ok(());
         }
-        shift.gate.pass(run.spec.workers, u64::from(look) + 1);
-        let crowd = seen_crowd(rt, alloc, run.net, field, seat)?;
-        if run.table.is_terminal(alloc, &crowd, &mut last)? {
+        shift.gate.pass(watch.run.spec.workers, u64::from(look) + 1);
+        let crowd = seen_crowd(rt, alloc, watch.run.net, field, seat)?;
+        if watch.table.is_terminal(alloc, &crowd, &mut last)? {
             shift.signals.stop();
             return Ok(());
         }
@@ -74,17 +74,17 @@ fn look_on<R: Wait, G: Gate>(
 pub(crate) fn observe<R: Wait, G: Gate>(
     rt: &R,
     alloc: Global,
-    run: &RunContext<G>,
+    watch: &WatchContext<G>,
     field: &Field,
     seat: &mut FieldSeat,
     shift: &Shift<G>,
 ) -> Result<(), NoMemory>
-    requires { CanObserve run.now.net.now (table_net run.now.table.now) field.now shift.now.turns seat.old }
+    requires { CanObserve watch.now.run.now.net.now (table_net watch.now.table.now) field.now shift.now.turns seat.old }
     ensures { IsSeatOf field.now seat.new × KeepsLogs seat.old seat.new }
 {
-    let observed = look_on(rt, alloc, run, field, seat, shift);
+    let observed = look_on(rt, alloc, watch, field, seat, shift);
     shift
         .gate
-        .pass(run.spec.workers, u64::from(seat.looks()) + 1);
+        .pass(watch.run.spec.workers, u64::from(seat.looks()) + 1);
     observed
 }

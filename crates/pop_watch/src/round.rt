@@ -11,7 +11,7 @@ ghost use Rattle.pair_workers.specs.Run.{made_by};
 ghost use Rattle.pop_watch.specs.Work.{CanObserve};
 ghost use Rattle.pop_watch.specs.Playing.{IsPartOfRound, IsWatchedRoundFrom, of_worker};
 
-use crate::context::RunContext;
+use crate::context::WatchContext;
 use crate::limits::LOOKS_A_ROUND;
 use crate::missing::make_missing;
 use crate::observe::observe;
@@ -41,14 +41,15 @@ fn turn_to_workers(meetings: &mut [Meeting])
 fn watch_beside<R: Threads + Wait + Sync, G: Gate>(
     rt: &R,
     alloc: Global,
-    run: &RunContext<G>,
+    watch: &WatchContext<G>,
     field: &Field,
     seat: &mut FieldSeat,
     workers: &mut [Worker],
     shift: &Shift<G>,
 ) -> Result<(), NoMemory>
     requires observed { shift.now.signals.now.observed ≡ true }
-    requires observer { CanObserve run.now.net.now (table_net run.now.table.now) field.now shift.now.turns seat.old }
+    requires observer { CanObserve watch.now.run.now.net.now (table_net watch.now.table.now) field.now
+        shift.now.turns seat.old }
     requires workers { All (MayWork field.now shift.now.turns) workers.old }
     ensures seat { IsSeatOf field.now seat.new × KeepsLogs seat.old seat.new }
     ensures workers { HaveWorked field.now shift.now.turns true workers.old workers.new }
@@ -56,9 +57,10 @@ fn watch_beside<R: Threads + Wait + Sync, G: Gate>(
     let (observed, ()) = join_mut(
         rt,
         &mut || -> Result<(), NoMemory>
-            requires { CanObserve run.now.net.now (table_net run.now.table.now) field.now shift.now.turns seat.now }
+            requires { CanObserve watch.now.run.now.net.now (table_net watch.now.table.now) field.now
+                shift.now.turns seat.now }
             ensures { IsSeatOf field.entry.now seat.exit.now × KeepsLogs seat.entry.now seat.exit.now }
-        { observe(rt, alloc, run, field, seat, shift) },
+        { observe(rt, alloc, watch, field, seat, shift) },
         &mut ||
             requires { IsCrowdSize (agents_of_field field.now) × All (MayWork field.now shift.now.turns) workers.now
                 × (shift.now.signals.now.observed ≡ true) }
@@ -72,27 +74,29 @@ fn watch_beside<R: Threads + Wait + Sync, G: Gate>(
 fn field_round<R: Threads + Wait + Sync, G: Gate>(
     rt: &R,
     alloc: Global,
-    run: &RunContext<G>,
+    watch: &WatchContext<G>,
     start: RoundStart,
     layout: &mut Layout,
 ) -> Result<(RoundEnd, Vec<u64>), NoMemory>
-    requires round { CanMakeRound run.now.net.now start.crowd run.now.spec.now.workers start.turns start.pickers.items }
-    requires workers { run.now.spec.now.workers ≤ WATCHED_WORKERS }
-    requires serves { Serves layout.old start.crowd run.now.spec.now.shards }
+    requires round { CanMakeRound watch.now.run.now.net.now start.crowd watch.now.run.now.spec.now.workers
+        start.turns start.pickers.items }
+    requires workers { watch.now.run.now.spec.now.workers ≤ WATCHED_WORKERS }
+    requires serves { Serves layout.old start.crowd watch.now.run.now.spec.now.shards }
     ensures part { IfOk result (λ r.
-        IsPartOfRound run.now.net.now start.crowd run.now.spec.now.workers start.turns start.pickers.items r.0) }
-    ensures serves { IfOk result (λ r. Serves layout.new r.0.crowd run.now.spec.now.shards) }
+        IsPartOfRound watch.now.run.now.net.now start.crowd watch.now.run.now.spec.now.workers start.turns
+        start.pickers.items r.0) }
+    ensures serves { IfOk result (λ r. Serves layout.new r.0.crowd watch.now.run.now.spec.now.shards) }
     ensures made { IfOk result
-        (λ r. (length r.1.items ≡ run.now.spec.now.workers)
-        × ((w d : ℕ) → w < run.now.spec.now.workers
+        (λ r. (length r.1.items ≡ watch.now.run.now.spec.now.workers)
+        × ((w d : ℕ) → w < watch.now.run.now.spec.now.workers
         → slice_index_or r.1.items w d ≡ made_by w r.0.meetings.items)) }
 {
     let turns = start.turns;
     let (field, mut seat, mut workers) = open_round(
         rt,
         alloc,
-        run.net,
-        run.spec.shards,
+        watch.run.net,
+        watch.run.spec.shards,
         start,
         layout,
     )?;
@@ -101,16 +105,16 @@ fn field_round<R: Threads + Wait + Sync, G: Gate>(
     let shift = Shift {
         turns,
         signals: &signals,
-        gate: run.gate,
+        gate: watch.run.gate,
     };
     let seats = workers.as_mut_slice();
-    watch_beside(rt, alloc, run, &field, &mut seat, seats, &shift)?;
+    watch_beside(rt, alloc, watch, &field, &mut seat, seats, &shift)?;
     let made = meetings_made(alloc, workers.as_slice())?;
     let (whole, pickers) = take_in(&field, seat, workers, Vec::new(alloc))?;
     let round = field.close_on(alloc, whole, layout)?;
     let mut meetings = round.meetings.into_vec();
     turn_to_workers(meetings.as_mut_slice());
-    let crowd = Crowd::of_words(run.net, round.words);
+    let crowd = Crowd::of_words(watch.run.net, round.words);
     let played = RoundEnd {
         crowd,
         pickers,
@@ -130,27 +134,28 @@ fn are_made(made: &[u64], turns: u64) -> bool
 pub(crate) fn watched_round<R: Threads + Wait + Sync, G: Gate>(
     rt: &R,
     alloc: Global,
-    run: &RunContext<G>,
+    watch: &WatchContext<G>,
     start: RoundStart,
     layout: &mut Layout,
 ) -> Result<RoundEnd, NoMemory>
-    requires round { CanMakeRound run.now.net.now start.crowd run.now.spec.now.workers start.turns start.pickers.items }
-    requires workers { run.now.spec.now.workers ≤ WATCHED_WORKERS }
-    requires serves { Serves layout.old start.crowd run.now.spec.now.shards }
+    requires round { CanMakeRound watch.now.run.now.net.now start.crowd watch.now.run.now.spec.now.workers
+        start.turns start.pickers.items }
+    requires workers { watch.now.run.now.spec.now.workers ≤ WATCHED_WORKERS }
+    requires serves { Serves layout.old start.crowd watch.now.run.now.spec.now.shards }
     ensures round { IfOk result
-        (IsWatchedRoundFrom (table_net run.now.table.now) run.now.net.now start.crowd run.now.spec.now.workers
-        start.turns start.pickers.items) }
-    ensures serves { IfOk result (λ r. Serves layout.new r.crowd run.now.spec.now.shards) }
+        (IsWatchedRoundFrom (table_net watch.now.table.now) watch.now.run.now.net.now start.crowd
+        watch.now.run.now.spec.now.workers start.turns start.pickers.items) }
+    ensures serves { IfOk result (λ r. Serves layout.new r.crowd watch.now.run.now.spec.now.shards) }
 {
     let turns = start.turns;
-    let (mut played, made) = field_round(rt, alloc, run, start, layout)?;
+    let (mut played, made) = field_round(rt, alloc, watch, start, layout)?;
     if are_made(made.as_slice(), turns) {
         return Ok(played);
     }
-    if run.table.is_terminal(alloc, &played.crowd, &mut None)? {
+    if watch.table.is_terminal(alloc, &played.crowd, &mut None)? {
         return Ok(played);
     }
     layout.clear();
-    make_missing(run.net, &mut played, made.as_slice(), turns)?;
+    make_missing(watch.run.net, &mut played, made.as_slice(), turns)?;
     Ok(played)
 }

@@ -2,24 +2,22 @@
 
 ghost use Rattle.std.specs.Prelude.{◌≤◌, IfOk};
 ghost use Rattle.agent_field.specs.Layouts.{Serves};
+ghost use Rattle.pop_net.specs.Lanes.{AreValid};
 ghost use Rattle.terminal_test.specs.TableNet.{table_net};
 ghost use Rattle.pop_words.specs.Kinds.{most_workers_of};
 ghost use Rattle.pair_workers.specs.Turns.{CanMakeRound};
-ghost use Rattle.pair_workers.specs.Ends.{CanMakeRun};
-ghost use Rattle.pair_workers.specs.SameLanes.{HaveSameLanes};
 ghost use Rattle.pop_watch.specs.RunsOfKind.{IsRoundOf, IsTakenRunOf};
 
-use crate::context::RunContext;
+use crate::context::WatchContext;
 use crate::round::watched_round;
 use agent_field::Layout;
 use pair_workers::{
-    End, ROUND_TURNS, RoundContext, RoundEnd, RoundSink, RoundStart, end_of, first_pickers,
-    goes_on, next_round,
+    End, ROUND_TURNS, RoundEnd, RoundSink, RoundStart, RunContext, end_of, first_pickers, goes_on,
+    next_round,
 };
 use pop_crowd::Crowd;
 use pop_io::{Gate, NoMemory};
-use pop_net::Net;
-use pop_words::{RunKind, RunSpec};
+use pop_words::RunKind;
 use std::alloc::Global;
 use std::sync::Wait;
 use std::thread::Threads;
@@ -30,26 +28,22 @@ fn round_of<R: Threads + Wait + Sync, G: Gate>(
     rt: &R,
     alloc: Global,
     kind: RunKind,
-    run: &RunContext<G>,
+    watch: &WatchContext<G>,
     start: RoundStart,
     layout: &mut Layout,
 ) -> Result<RoundEnd, NoMemory>
-    requires round { CanMakeRound run.now.net.now start.crowd run.now.spec.now.workers start.turns start.pickers.items }
-    requires workers { run.now.spec.now.workers ≤ most_workers_of kind }
-    requires serves { Serves layout.old start.crowd run.now.spec.now.shards }
+    requires round { CanMakeRound watch.now.run.now.net.now start.crowd watch.now.run.now.spec.now.workers
+        start.turns start.pickers.items }
+    requires workers { watch.now.run.now.spec.now.workers ≤ most_workers_of kind }
+    requires serves { Serves layout.old start.crowd watch.now.run.now.spec.now.shards }
     ensures round { IfOk result
-        (IsRoundOf kind (table_net run.now.table.now) run.now.net.now start.crowd run.now.spec.now.workers start.turns
-        start.pickers.items) }
-    ensures serves { IfOk result (λ r. Serves layout.new r.crowd run.now.spec.now.shards) }
+        (IsRoundOf kind (table_net watch.now.table.now) watch.now.run.now.net.now start.crowd
+        watch.now.run.now.spec.now.workers start.turns start.pickers.items) }
+    ensures serves { IfOk result (λ r. Serves layout.new r.crowd watch.now.run.now.spec.now.shards) }
 {
-    let plain = RoundContext {
-        net: run.net,
-        spec: run.spec,
-        gate: run.gate,
-    };
     match kind {
-        RunKind::Whole => next_round(rt, alloc, &plain, start, layout),
-        RunKind::Watched => watched_round(rt, alloc, run, start, layout),
+        RunKind::Whole => next_round(rt, alloc, watch.run, start, layout),
+        RunKind::Watched => watched_round(rt, alloc, watch, start, layout),
     }
 }
 
@@ -59,31 +53,23 @@ pub(crate) fn run_on_threads<R: Threads + Wait + Sync, G: Gate, S: RoundSink>(
     rt: &R,
     alloc: Global,
     kind: RunKind,
-    net: &Net,
-    rest: &Net,
+    run: &RunContext<G>,
     crowd: Crowd,
-    spec: &RunSpec,
-    gate: &G,
     sink: &mut S,
 ) -> Result<(Crowd, End), NoMemory>
-    requires can { CanMakeRun net.now crowd spec.now }
-    requires workers { spec.now.workers ≤ most_workers_of kind }
-    requires lanes { HaveSameLanes rest.now net.now }
+    requires valid { AreValid run.now.net.now crowd }
+    requires workers { run.now.spec.now.workers ≤ most_workers_of kind }
     ensures { IfOk result
-        (λ end. IsTakenRunOf kind S.takes rest.now net.now crowd spec.now sink.old sink.new end.0 end.1) }
+        (λ end. IsTakenRunOf kind S.takes run.now.rest.now run.now.net.now crowd run.now.spec.now sink.old sink.new
+        end.0 end.1) }
 {
     let mut crowd = crowd;
-    let mut pickers = first_pickers(alloc, spec)?;
-    let mut left = spec.turns;
+    let mut pickers = first_pickers(alloc, run.spec)?;
+    let mut left = run.spec.turns;
     let mut number = 1;
     let mut layout = Layout::new(alloc);
-    let table = PairTable::new(alloc, rest)?;
-    let run = RunContext {
-        net,
-        table: &table,
-        spec,
-        gate,
-    };
+    let table = PairTable::new(alloc, run.rest)?;
+    let watch = WatchContext { run, table: &table };
     let mut last = None;
     'rounds: while goes_on(alloc, &table, &crowd, left, &mut last)? {
         let turns = ROUND_TURNS.min(left);
@@ -92,7 +78,7 @@ pub(crate) fn run_on_threads<R: Threads + Wait + Sync, G: Gate, S: RoundSink>(
             pickers,
             turns,
         };
-        let played = round_of(rt, alloc, kind, &run, start, &mut layout)?;
+        let played = round_of(rt, alloc, kind, &watch, start, &mut layout)?;
         sink.take(number, played.meetings)?;
         crowd = played.crowd;
         pickers = played.pickers;

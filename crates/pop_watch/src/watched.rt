@@ -5,7 +5,7 @@ ghost use Rattle.pair_workers.specs.Ends.{CanMakeRun};
 ghost use Rattle.pop_watch.specs.WatchedEnds.{IsWatchedRunFrom};
 
 use crate::threads::run_on_threads;
-use pair_workers::{KeptRounds, RunEnd};
+use pair_workers::{KeptRounds, RunContext, RunEnd};
 use pop_crowd::Crowd;
 use pop_io::{Gate, List, NoMemory};
 use pop_net::Net;
@@ -33,7 +33,13 @@ pub fn run_watched<R: Threads + Wait + Sync, G: Gate>(
         rounds: Vec::new(alloc),
     };
     let kind = RunKind::Watched;
-    let (crowd, end) = run_on_threads(rt, alloc, kind, net, net, crowd, spec, gate, &mut kept)?;
+    let run = RunContext {
+        net,
+        rest: net,
+        spec,
+        gate,
+    };
+    let (crowd, end) = run_on_threads(rt, alloc, kind, &run, crowd, &mut kept)?;
     let KeptRounds { rounds } = kept;
     Ok(RunEnd {
         rounds: List::from_vec(rounds),

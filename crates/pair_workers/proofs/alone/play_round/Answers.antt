@@ -9,7 +9,7 @@ use Rattle.pair_workers.proofs.alone.play_round.Goals as goal
 
 pub turns-preserved : goal.turns-preserved
 turns-preserved g c =
-    let net = c.args.net.now in
+    let net = c.args.run.now.net.now in
     let pushed : c.push_reserved.new.self.items ≡ c.turns.log.items ++ c.meet_next.result ∷ [] = c.push_reserved.ensures.items in
     record {
       played = subst (λ (log : List Meeting). IsPlayed net (crowd_of net c.args.crowd.now) (words_from c.args.picker.now) log (crowd_of net c.meet_next.new.crowd) (words_from c.meet_next.new.picker)) (sym pushed)
@@ -23,7 +23,7 @@ turns-preserved g c =
 
 pub turns-init : goal.turns-init
 turns-init g c =
-    let net = c.args.net.now in
+    let net = c.args.run.now.net.now in
     let start = crowd_of net c.args.crowd.now in
     let words = words_from c.args.picker.now in
     let log = c.in_ok-log.ensures in

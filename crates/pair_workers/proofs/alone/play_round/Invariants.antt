@@ -7,9 +7,9 @@ use Rattle.pair_workers.proofs.alone.play_round.Given as goal
 
 abbrev pub invariant-turns : goal.invariant-turns
 invariant-turns g l = record {
-  played : IsPlayed l.net (crowd_of l.net l.fn.crowd) (words_from l.fn.picker) l.log.items (crowd_of l.net l.crowd) (words_from l.picker);
+  played : IsPlayed l.run.net.now (crowd_of l.run.net.now l.fn.crowd) (words_from l.fn.picker) l.log.items (crowd_of l.run.net.now l.crowd) (words_from l.picker);
   turns : length l.log.items ≡ l.turn;
-  valid : AreValid l.net l.crowd;
+  valid : AreValid l.run.net.now l.crowd;
   agents : length l.crowd ≡ length l.fn.crowd;
   room : l.turns ≤ vec_capacity l.log;
 }

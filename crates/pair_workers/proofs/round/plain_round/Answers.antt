@@ -6,7 +6,7 @@ use Rattle.pair_workers.proofs.round.plain_round.Goals as goal
 
 pub returns : goal.returns
 returns g c =
-    let net = c.args.net.now in
+    let net = c.args.run.now.net.now in
     let pickers = c.args.start.pickers.items in
     let now = c.index_mut.result.now in
     let some : 0 < length pickers = omega (arith, c.requires.pickers) in

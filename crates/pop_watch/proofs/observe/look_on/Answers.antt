@@ -5,4 +5,4 @@ use Rattle.pop_watch.proofs.observe.look_on.Goals as goal
 
 pub is_terminal-requires : goal.is_terminal-requires
 is_terminal-requires g c =
-    valid_same c.args.run.now.net.now (table_net c.args.run.now.table.now) (sym c.requires.lanes) c.in_ok-crowd.crowd c.in_ok-crowd.ensures.valid
+    valid_same c.args.watch.now.run.now.net.now (table_net c.args.watch.now.table.now) (sym c.requires.lanes) c.in_ok-crowd.crowd c.in_ok-crowd.ensures.valid

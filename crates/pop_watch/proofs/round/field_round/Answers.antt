@@ -27,7 +27,7 @@ watch_beside-requires-clause-observer g c κs within =
     let e = c.in_ok-field.ensures.opened in
     let r = c.in_ok-reserve_looks.ensures in
     record {
-      lanes = c.args.run.now.lanes;
+      lanes = c.args.watch.now.lanes;
       field = e.field.net_is;
       agents = subst (λ (l : List Word). (2 ≤ length l) × (length l ≤ 65536)) (sym e.field.opening_is) e.agents;
       ours = r.ours;
@@ -108,8 +108,8 @@ returns-clause-made g c =
 
 pub returns-clause-part : goal.returns-clause-part
 returns-clause-part g c =
-    let net = c.args.run.now.net.now in
-    let workers = c.args.run.now.spec.now.workers in
+    let net = c.args.watch.now.run.now.net.now in
+    let workers = c.args.watch.now.run.now.spec.now.workers in
     let is = c.in_ok-field.ensures.opened.field in
     let f = c.in_ok-field.field in
     let turns = c.args.start.turns in

@@ -25,31 +25,31 @@ returns-then-are_made g c =
 
 pub returns-then-branch : goal.returns-then-branch
 returns-then-branch g c =
-    let rest = table_net c.args.run.now.table.now in
+    let rest = table_net c.args.watch.now.table.now in
     record {
       round = record {
         part = c.in_ok-played.ensures.part;
-        ends = inr (subst (λ (f : List Word → CrowdModel). IsTerminal (Step rest) (f c.in_ok-played.played.crowd)) (crowd_same rest c.args.run.now.net.now c.args.run.now.lanes) (c.in_ok-is_terminal.ensures.terminal.0 c.if-branch.true));
+        ends = inr (subst (λ (f : List Word → CrowdModel). IsTerminal (Step rest) (f c.in_ok-played.played.crowd)) (crowd_same rest c.args.watch.now.run.now.net.now c.args.watch.now.lanes) (c.in_ok-is_terminal.ensures.terminal.0 c.if-branch.true));
       };
       serves = c.in_ok-played.ensures.serves;
     }
 
 pub is_terminal-requires : goal.is_terminal-requires
 is_terminal-requires g c =
-    let lanes = c.args.run.now.lanes in
-    valid_same c.args.run.now.net.now (table_net c.args.run.now.table.now) (sym lanes) c.in_ok-played.played.crowd c.in_ok-played.ensures.part.valid
+    let lanes = c.args.watch.now.lanes in
+    valid_same c.args.watch.now.run.now.net.now (table_net c.args.watch.now.table.now) (sym lanes) c.in_ok-played.played.crowd c.in_ok-played.ensures.part.valid
 
 pub returns : goal.returns
 returns g c =
-    let net = c.args.run.now.net.now in
+    let net = c.args.watch.now.run.now.net.now in
     let start = crowd_of net c.args.start.crowd in
     let pickers = c.args.start.pickers.items in
     let before = c.in_ok-played.played in
     let after = c.make_missing.new.played in
     let was = c.in_ok-played.ensures.part in
     let on = c.in_ok-make_missing.ensures in
-    let long : length c.as_slice-2.result.now ≡ c.args.run.now.spec.now.workers = ap (length {A = ℕ}) c.as_slice-2.ensures.value ∙ c.in_ok-played.ensures.made.0 in
-    let all : (w : ℕ) → w < c.args.run.now.spec.now.workers → made_by w after.meetings.items ≡ c.args.start.turns = (λ w l. on.all w (omega (arith, l, long))) in
+    let long : length c.as_slice-2.result.now ≡ c.args.watch.now.run.now.spec.now.workers = ap (length {A = ℕ}) c.as_slice-2.ensures.value ∙ c.in_ok-played.ensures.made.0 in
+    let all : (w : ℕ) → w < c.args.watch.now.run.now.spec.now.workers → made_by w after.meetings.items ≡ c.args.start.turns = (λ w l. on.all w (omega (arith, l, long))) in
     record {
       round = record {
         part = record {

@@ -13,10 +13,10 @@ use Rattle.pop_watch.proofs.threads.run_on_threads.Goals as goal
 
 pub rounds-init : goal.rounds-init
 rounds-init g c =
-    let rest = c.args.rest.now in
-    let net = c.args.net.now in
+    let rest = c.args.run.now.rest.now in
+    let net = c.args.run.now.net.now in
     let start = crowd_of net c.args.crowd in
-    let spec = c.args.spec.now in
+    let spec = c.args.run.now.spec.now in
     let first = c.in_ok-pickers.ensures in
     let pickers = c.in_ok-pickers.pickers.items in
     record {
@@ -26,19 +26,19 @@ rounds-init g c =
         taken = refl;
         next = refl;
       };
-      valid = c.requires.can.valid;
+      valid = c.requires.valid;
       agents = refl;
       pickers = first.long;
-      few = c.requires.can.limits.turns.1;
-      count = omega (arith, c.requires.can.limits.turns.1);
+      few = c.args.run.now.limits.turns.1;
+      count = omega (arith, c.args.run.now.limits.turns.1);
       serves = inl c.new-layout.ensures;
     }
 
 pub rounds-preserved : goal.rounds-preserved
 rounds-preserved g c =
-    let rest = c.args.rest.now in
-    let net = c.args.net.now in
-    let spec = c.args.spec.now in
+    let rest = c.args.run.now.rest.now in
+    let net = c.args.run.now.net.now in
+    let spec = c.args.run.now.spec.now in
     let start = crowd_of net c.args.crowd in
     let was = c.rounds.invariant in
     let made = was.made in
@@ -48,7 +48,7 @@ rounds-preserved g c =
     let meetings = played.meetings.items in
     let least : c.min-turns.result ≡ min 4096 c.rounds.left = c.min-turns.ensures in
     let goes = subst (λ (n : NetModel). (c.in_ok-goes_on.field-0 ≡ true) ↔ RunGoesOn n (crowd_of n c.rounds.crowd) c.rounds.left) c.in_ok-table.ensures c.in_ok-goes_on.ensures in
-    let more = (goes_at rest net c.rounds.crowd c.rounds.left c.in_ok-goes_on.field-0 c.requires.lanes goes).0 c.if-branch.true in
+    let more = (goes_at rest net c.rounds.crowd c.rounds.left c.in_ok-goes_on.field-0 c.args.run.now.lanes goes).0 c.if-branch.true in
     let sizes = sizes_of c.args.kind rest net c.rounds.crowd spec.workers c.min-turns.result old played was.pickers is in
     record {
       made = record {
@@ -67,14 +67,14 @@ rounds-preserved g c =
 
 pub returns : goal.returns
 returns g c =
-    let rest = c.args.rest.now in
-    let net = c.args.net.now in
-    let spec = c.args.spec.now in
+    let rest = c.args.run.now.rest.now in
+    let net = c.args.run.now.net.now in
+    let spec = c.args.run.now.spec.now in
     let was = c.rounds.invariant in
     let made = was.made in
     let goes = subst (λ (n : NetModel). (c.in_ok-goes_on.field-0 ≡ true) ↔ RunGoesOn n (crowd_of n c.rounds.crowd) c.rounds.left) c.in_ok-table.ensures c.in_ok-goes_on.ensures in
     let ended = subst (λ (n : NetModel). IsEndOf n (crowd_of n c.rounds.crowd) c.in_ok-end.end) c.in_ok-table.ensures c.in_ok-end.ensures in
-    let run = run_ended_of rest net c.args.crowd c.rounds.crowd spec made.rounds c.rounds.pickers.items c.rounds.left c.in_ok-goes_on.field-0 c.in_ok-end.end c.args.kind made.run was.valid was.agents c.if-branch.false c.requires.lanes goes ended in
+    let run = run_ended_of rest net c.args.crowd c.rounds.crowd spec made.rounds c.rounds.pickers.items c.rounds.left c.in_ok-goes_on.field-0 c.in_ok-end.end c.args.kind made.run was.valid was.agents c.if-branch.false c.args.run.now.lanes goes ended in
     record {
       rounds = made.rounds;
       run = run;
@@ -84,12 +84,12 @@ returns g c =
 pub goes_on-requires : goal.goes_on-requires
 goes_on-requires g c =
     subst (λ (n : NetModel). AreValid n c.rounds.crowd) (sym c.in_ok-table.ensures)
-    (valid_same c.args.net.now c.args.rest.now (sym c.requires.lanes) c.rounds.crowd c.rounds.invariant.valid)
+    (valid_same c.args.run.now.net.now c.args.run.now.rest.now (sym c.args.run.now.lanes) c.rounds.crowd c.rounds.invariant.valid)
 
 pub end_of-requires : goal.end_of-requires
 end_of-requires g c =
     subst (λ (n : NetModel). AreValid n c.rounds.crowd) (sym c.in_ok-table.ensures)
-    (valid_same c.args.net.now c.args.rest.now (sym c.requires.lanes) c.rounds.crowd c.rounds.invariant.valid)
+    (valid_same c.args.run.now.net.now c.args.run.now.rest.now (sym c.args.run.now.lanes) c.rounds.crowd c.rounds.invariant.valid)
 
 pub round_of-requires-clause-round : goal.round_of-requires-clause-round
 round_of-requires-clause-round g c κs within =

@@ -11,5 +11,5 @@ returns g c =
     record {
       rounds = ran.rounds;
       run = ran.run;
-      text = ended_text c.args.kind c.args.spec.now c.args.text.items _ _ ran.rounds so_far c.in_ok-text.ensures;
+      text = ended_text c.args.kind c.args.run.now.spec.now c.args.text.items _ _ ran.rounds so_far c.in_ok-text.ensures;
     }
