@@ -16,7 +16,7 @@ use crate::bundle::{AnyBundle, begin_any};
 use crate::prepared::{PendingRun, Prepared, Setting};
 use crate::proved::prove;
 use crate::start::Start;
-use pair_workers::End;
+use pair_workers::{End, RunContext};
 use pop_crowd::Crowd;
 use pop_io::{Failure, Gate, List, NoMemory};
 use pop_journal::{Last, push_end, push_run_alone};
@@ -90,8 +90,14 @@ pub fn make_alone<G: Gate>(alloc: Global, run: PendingRun, gate: &G) -> Result<O
     } = run;
     let (net, rest) = (setting.proved.net(), setting.proved.rest());
     let spec = &setting.spec;
+    let context = RunContext {
+        net,
+        rest,
+        spec,
+        gate,
+    };
     let text = lines.into_vec();
-    let (text, last_crowd, end) = push_run_alone(alloc, text, net, rest, crowd, spec, gate)?;
+    let (text, last_crowd, end) = push_run_alone(alloc, text, &context, crowd)?;
     run_output(alloc, text, &setting, &last_crowd, end)
 }
 
@@ -111,9 +117,15 @@ pub fn make_on_threads<R: Threads + Wait + Sync, G: Gate>(
         crowd,
     } = run;
     let (net, rest) = (setting.proved.net(), setting.proved.rest());
-    let (kind, spec) = (setting.kind, &setting.spec);
+    let spec = &setting.spec;
+    let context = RunContext {
+        net,
+        rest,
+        spec,
+        gate,
+    };
     let text = lines.into_vec();
-    let (text, last_crowd, end) = push_run(rt, alloc, text, kind, net, rest, crowd, spec, gate)?;
+    let (text, last_crowd, end) = push_run(rt, alloc, text, setting.kind, &context, crowd)?;
     run_output(alloc, text, &setting, &last_crowd, end)
 }
 
