@@ -13,6 +13,7 @@ ghost use Rattle.pop_words.specs.Options.{IsWithinLimits};
 ghost use Rattle.std.specs.Option.{option_copied};
 
 use crate::fault::JournalWhy;
+use crate::reading::ReadContext;
 use crate::short::short_meeting;
 use pop_crowd::Meeting;
 use pop_io::{SHARD_LIMIT, WORKER_LIMIT};
@@ -99,18 +100,19 @@ pub(crate) fn stops_here(kind: RunKind, told: Option<MeetingLine>, text: &[u8]) 
 /// The meeting on a line, by a worker that has fewer meetings of this round than its turns.
 pub(crate) fn checked(
     told: Option<MeetingLine>,
-    spec: &RunSpec,
-    agents: u32,
+    context: &ReadContext<'_>,
     made: &[u64],
     turns: u64,
 ) -> Result<Meeting, JournalWhy>
-    requires workers { length made.now ≡ spec.now.workers }
-    requires few { spec.now.workers ≤ WORKER_LIMIT }
-    ensures worker { IfOk result (λ m. (m.worker < spec.now.workers) × (slice_index_or made.now m.worker 0 < turns)) }
+    requires { length made.now ≡ context.now.spec.now.workers }
+    ensures worker { IfOk result
+        (λ m. (m.worker < context.now.spec.now.workers) × (slice_index_or made.now m.worker 0 < turns)) }
     ensures read { (rounds : Items (Items Meeting)) (meetings : Items Meeting)
-        → turns ≡ turns_in spec.now (length rounds + 1)
-        → ((w : ℕ) (d : ℕ) → w < spec.now.workers → slice_index_or made.now w d ≡ length (meetings_of w meetings))
-        → meeting_told spec.now agents rounds meetings told ≡ onward spec.now rounds meetings result }
+        → turns ≡ turns_in context.now.spec.now (length rounds + 1)
+        → ((w : ℕ) (d : ℕ) → w < context.now.spec.now.workers
+        → slice_index_or made.now w d ≡ length (meetings_of w meetings))
+        → meeting_told context.now.spec.now context.now.agents rounds meetings told
+        ≡ onward context.now.spec.now rounds meetings result }
 {
     let Some(
         MeetingLine {
@@ -123,11 +125,11 @@ pub(crate) fn checked(
     else {
         return Err(JournalWhy::Form);
     };
-    let workers = spec.workers;
+    let workers = context.spec.workers;
     if u128::from(workers) <= worker || turns <= made[worker as usize] {
         return Err(JournalWhy::Worker);
     }
-    let below = u128::from(agents);
+    let below = u128::from(context.agents);
     if first == second || below <= first || below <= second {
         return Err(JournalWhy::Agents);
     }

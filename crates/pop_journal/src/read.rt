@@ -17,12 +17,13 @@ use crate::fault::{JournalFault, JournalWhy};
 use crate::form::{checked, next_told, spec_of, stops_here};
 use crate::journal::{Journal, LINE_LIMIT};
 use crate::limits::FIRST_MEETING_LIMIT;
+use crate::reading::{ReadContext, TextPlace};
 use itoa::Buffer;
 use pair_workers::ROUND_TURNS;
 use pop_crowd::Meeting;
 use pop_io::{Failure, List, WORKER_LIMIT};
 use pop_lines::next_line;
-use pop_words::{RunKind, RunSpec};
+use pop_words::RunKind;
 use std::alloc::{AllocError, Global};
 
 /// How the lines of a round end.
@@ -34,37 +35,35 @@ pub(crate) enum LinesEnd {
     Stopped,
 }
 
-/// Reads the meeting lines of a round; the first has this number. Returns how the round ends, and the bytes after it.
+/// Reads the meeting lines of a round from its first on. Returns how the round ends, and the bytes after it.
 fn read_round<'t>(
     alloc: Global,
-    kind: RunKind,
-    spec: &RunSpec,
-    agents: u32,
+    context: &ReadContext<'_>,
     turns: u64,
-    text: &'t [u8],
-    number: u64,
+    start: &TextPlace<'t>,
     meetings: &mut Vec<Meeting>,
 ) -> Result<(LinesEnd, &'t [u8]), Failure<JournalFault>>
-    requires spec { IsWithinLimits spec.now }
     requires turns { (1 ≤ turns) × (turns ≤ ROUND_TURNS) }
     requires none { meetings.old.items ≡ [] }
-    requires number { number ≤ FIRST_MEETING_LIMIT }
+    requires number { start.now.number ≤ FIRST_MEETING_LIMIT }
     ensures long { IfOk result (λ _. length meetings.new.items ≤ WORKER_LIMIT * turns) }
-    ensures read { (rounds : Items (Items Meeting)) → turns ≡ turns_in spec.now (length rounds + 1)
-        → ReadsRound kind spec.now agents number rounds (lines_of text.now) meetings.new.items result }
+    ensures read { (rounds : Items (Items Meeting)) → turns ≡ turns_in context.now.spec.now (length rounds + 1)
+        → ReadsRound context.now.kind context.now.spec.now context.now.agents start.now.number rounds
+        (lines_of start.now.text.now) meetings.new.items result }
 {
-    let wanted = usize::from(spec.workers) * turns as usize;
-    let mut made = vec![in alloc; 0u64; usize::from(spec.workers)]?;
-    let mut rest = text;
+    let workers = usize::from(context.spec.workers);
+    let wanted = workers * turns as usize;
+    let mut made = vec![in alloc; 0u64; workers]?;
+    let mut rest = start.text;
     'lines: while meetings.len() < wanted {
-        let line = number + meetings.len() as u64;
+        let line = start.number + meetings.len() as u64;
         let Some((told, more)) = next_told(rest) else {
             return Err(fault_at(line, JournalWhy::Missing));
         };
-        if stops_here(kind, told, rest) {
+        if stops_here(context.kind, told, rest) {
             return Ok((LinesEnd::Stopped, more));
         }
-        let meeting = match checked(told, spec, agents, &made, turns) {
+        let meeting = match checked(told, context, &made, turns) {
             Ok(meeting) => meeting,
             Err(why) => return Err(fault_at(line, why)),
         };
@@ -78,21 +77,18 @@ fn read_round<'t>(
 /// Reads the rounds of a journal up to `end`, and returns the bytes after it.
 fn read_rounds<'t>(
     alloc: Global,
-    kind: RunKind,
-    spec: &RunSpec,
-    agents: u32,
-    text: &'t [u8],
-    number: u64,
+    context: &ReadContext<'_>,
+    start: &TextPlace<'t>,
     rounds: &mut Vec<List<Meeting>>,
 ) -> Result<&'t [u8], Failure<JournalFault>>
-    requires spec { IsWithinLimits spec.now }
     requires none { rounds.old.items ≡ [] }
-    requires number { number ≤ LINE_LIMIT + 1 }
-    ensures { ReadsRounds kind spec.now agents number (lines_of text.now) rounds.new.items result }
+    requires number { start.now.number ≤ LINE_LIMIT + 1 }
+    ensures { ReadsRounds context.now.kind context.now.spec.now context.now.agents start.now.number
+        (lines_of start.now.text.now) rounds.new.items result }
 {
-    let mut rest = text;
-    let mut line = number;
-    let mut left = spec.turns;
+    let mut rest = start.text;
+    let mut line = start.number;
+    let mut left = context.spec.turns;
     'rounds: while let Some((first, more)) = next_line(rest) {
         if first == b"end".as_slice() {
             return Ok(more);
@@ -106,16 +102,11 @@ fn read_rounds<'t>(
         }
         let turns = ROUND_TURNS.min(left);
         let mut meetings = Vec::new(alloc);
-        let (end, behind) = read_round(
-            alloc,
-            kind,
-            spec,
-            agents,
-            turns,
-            more,
-            line + 1,
-            &mut meetings,
-        )?;
+        let place = TextPlace {
+            text: more,
+            number: line + 1,
+        };
+        let (end, behind) = read_round(alloc, context, turns, &place, &mut meetings)?;
         line += 1 + meetings.len() as u64;
         left -= turns;
         rounds.push(List::from_vec(meetings))?;
@@ -182,7 +173,16 @@ fn read_lines(
         return Err(fault_at(first, JournalWhy::Form));
     };
     let mut rounds = Vec::new(alloc);
-    let behind = read_rounds(alloc, kind, &spec, agents, rest, first + 1, &mut rounds)?;
+    let context = ReadContext {
+        kind,
+        spec: &spec,
+        agents,
+    };
+    let place = TextPlace {
+        text: rest,
+        number: first + 1,
+    };
+    let behind = read_rounds(alloc, &context, &place, &mut rounds)?;
     let tail = take_lines(alloc, behind)?;
     Ok(Journal {
         kind,

@@ -5,7 +5,6 @@ ghost use Rattle.pop_net.specs.NetModel.{CrowdModel};
 ghost use Rattle.pop_net.specs.Lanes.{crowd_of, AreValid};
 ghost use Rattle.pop_crowd.specs.Replay.{AreMeetings};
 ghost use Rattle.pair_workers.specs.CrowdSize.{IsCrowdSize};
-ghost use Rattle.pair_workers.specs.SameLanes.{HaveSameLanes};
 ghost use Rattle.pop_lines.specs.Lines.{lines_of, ended};
 ghost use Rattle.pop_crowd.specs.Tally.{crowd_lines};
 ghost use Rattle.pop_journal.specs.Journal.{meeting_line, round_line, last_line};
@@ -19,13 +18,13 @@ ghost use Rattle.terminal_test.specs.TableNet.{table_net};
 use crate::fault::VerifyFault;
 use crate::last::{Last, Outcome};
 use crate::limits::ROUND_LIMIT;
+use crate::replay_context::{EndPlace, ReplayContext};
 use crate::write::{push_last_line, push_meeting_numbers};
 use pair_workers::{Picker, ROUND_TURNS, meet_next};
 use pop_crowd::{Crowd, Meeting};
 use pop_io::{Failure, List, NoMemory, WORKER_LIMIT};
 use pop_lines::{next_line, push_number};
 use pop_net::Net;
-use pop_words::RunSpec;
 use std::alloc::{AllocError, Global};
 use terminal_test::{PairTable, agreed};
 
@@ -78,7 +77,6 @@ impl Replayer {
     ghost use Rattle.pop_words.specs.declared.spec.RunSpec.{RunSpec};
     ghost use Rattle.pop_journal.specs.Ending.{ending_until};
     ghost use Rattle.pop_journal.specs.declared.last.Outcome.{Outcome};
-    ghost use Rattle.pair_workers.specs.SameLanes.{HaveSameLanes};
     ghost use Rattle.pair_workers.specs.Run.{turns_in};
     ghost use Rattle.pop_journal.specs.Journal.{round_line};
     ghost use Rattle.std.specs.Prelude.{codes};
@@ -135,99 +133,94 @@ impl Replayer {
     pub(crate) fn compare_round(
         &mut self,
         alloc: Global,
-        net: &Net,
-        table: &PairTable,
+        context: &ReplayContext<'_>,
         round: u64,
         meetings: &[Meeting],
         line: u64,
     ) -> Result<(), Failure<VerifyFault>>
-        requires lanes { HaveSameLanes (table_net table.now) net.now }
-        requires valid { AreValid net.now self.old.crowd }
+        requires valid { AreValid context.now.net.now self.old.crowd }
         requires meetings { AreMeetings (length self.old.crowd) meetings.now }
         requires workers { All (λ m. m.worker < length self.old.pickers.items) meetings.now }
         requires few { IsCrowdSize (length self.old.crowd) × (length self.old.pickers.items ≤ WORKER_LIMIT) }
         requires line { line + 1 + length meetings.now < 2 ^ 64 }
         ensures passes { (start : CrowdModel) (spec : RunSpec) (before : List Meeting)
-            → IsReplaying net.now start spec before self.old → 1 ≤ turns_in spec round
+            → IsReplaying context.now.net.now start spec before self.old → 1 ≤ turns_in spec round
             → Passes line
-            (both (round_line round) (line_between (table_net table.now) net.now start spec before round)
-            ∷ meetings_compared net.now start spec before meetings.now) result
-            × IfOk result (λ _. IsReplaying net.now start spec (before ++ meetings.now) self.new) }
-        ensures shape { KeepsShape net.now self.old self.new }
+            (both (round_line round)
+            (line_between (table_net context.now.table.now) context.now.net.now start spec before round)
+            ∷ meetings_compared context.now.net.now start spec before meetings.now) result
+            × IfOk result (λ _. IsReplaying context.now.net.now start spec (before ++ meetings.now) self.new) }
+        ensures shape { KeepsShape context.now.net.now self.old self.new }
     {
-        if is_quiet(alloc, table, &self.crowd, &mut self.last)? {
+        if is_quiet(alloc, context.table, &self.crowd, &mut self.last)? {
             return Err(round_for_end(alloc, line, round)?);
         }
-        self.compare_meetings(alloc, net, meetings, line + 1)
+        self.compare_meetings(alloc, context.net, meetings, line + 1)
     }
 
-    /// The line expected in place of `end`, if it is another one. A round with this number might begin
-    /// there, and the round before it lacks a meeting of the worker, if there is one.
+    /// The line expected in place of `end`, if it is another one.
     fn line_for_end(
         &mut self,
         alloc: Global,
-        net: &Net,
-        spec: &RunSpec,
-        round: u64,
-        lacking: Option<u16>,
+        context: &ReplayContext<'_>,
+        place: EndPlace,
         last: Last,
     ) -> Result<Option<List<u8>>, AllocError>
-        requires valid { AreValid net.now self.old.crowd }
-        requires round { (1 ≤ round) × (round ≤ ROUND_LIMIT + 1) }
-        requires worker { IfSome lacking (λ worker. worker < length self.old.pickers.items) }
+        requires valid { AreValid context.now.net.now self.old.crowd }
+        requires round { (1 ≤ place.round) × (place.round ≤ ROUND_LIMIT + 1) }
+        requires worker { IfSome place.lacking (λ worker. worker < length self.old.pickers.items) }
         ensures { IfOk result
             (λ found. (rest : NetModel) (outcome : Outcome) (start : CrowdModel) (before : List Meeting)
-            → IsReplaying net.now start spec.now before self.old
-            → last ≡ ending_until rest outcome net.now (replay net.now before start)
-            → IsForEnd (line_at_end rest net.now start spec.now before round lacking) found) }
+            → IsReplaying context.now.net.now start context.now.journal.now.spec before self.old
+            → last ≡ ending_until rest outcome context.now.net.now (replay context.now.net.now before start)
+            → IsForEnd (line_at_end rest context.now.net.now start context.now.journal.now.spec before place.round
+            place.lacking) found) }
     {
         if !is_undecided(last) {
             return Ok(None);
         }
-        if let Some(worker) = lacking {
-            return Ok(Some(meeting_text(alloc, &self.replay_next(net, worker))?));
+        if let Some(worker) = place.lacking {
+            let found = self.replay_next(context.net, worker);
+            return Ok(Some(meeting_text(alloc, &found)?));
         }
-        if spec.turns <= ROUND_TURNS * (round - 1) {
+        if context.journal.spec.turns <= ROUND_TURNS * (place.round - 1) {
             return Ok(None);
         }
-        Ok(Some(round_text(alloc, round)?))
+        Ok(Some(round_text(alloc, place.round)?))
     }
 
-    /// Compares `end`, where a round with this number might begin, and the lines after it.
-    /// The round before it lacks a meeting of the worker, if there is one.
+    /// Compares `end` at its place, and the lines after it.
     pub(crate) fn compare_end(
         &mut self,
         alloc: Global,
-        net: &Net,
-        table: &PairTable,
-        outcome: Outcome,
-        spec: &RunSpec,
-        round: u64,
-        lacking: Option<u16>,
+        context: &ReplayContext<'_>,
+        place: EndPlace,
         tail: &[List<u8>],
-        line: u64,
     ) -> Result<(), Failure<VerifyFault>>
-        requires lanes { HaveSameLanes (table_net table.now) net.now }
-        requires valid { AreValid net.now self.old.crowd }
-        requires round { (1 ≤ round) × (round ≤ ROUND_LIMIT + 1) }
-        requires worker { IfSome lacking (λ worker. worker < length self.old.pickers.items) }
-        requires line { line + 1 + length tail.now < 2 ^ 64 }
-        ensures { (start : CrowdModel) (before : List Meeting) → IsReplaying net.now start spec.now before self.old
-            → Passes line
-            (both (codes "end") (line_at_end (table_net table.now) net.now start spec.now before round lacking)
+        requires valid { AreValid context.now.net.now self.old.crowd }
+        requires round { (1 ≤ place.round) × (place.round ≤ ROUND_LIMIT + 1) }
+        requires worker { IfSome place.lacking (λ worker. worker < length self.old.pickers.items) }
+        requires line { place.line + 1 + length tail.now < 2 ^ 64 }
+        ensures { (start : CrowdModel) (before : List Meeting)
+            → IsReplaying context.now.net.now start context.now.journal.now.spec before self.old
+            → Passes place.line
+            (both (codes "end")
+            (line_at_end (table_net context.now.table.now) context.now.net.now start context.now.journal.now.spec before
+            place.round place.lacking)
             ∷ tail_compared tail.now
-            (lines_of (whole_tail_until (table_net table.now) outcome net.now (replay net.now before start)))) result }
+            (lines_of (whole_tail_until (table_net context.now.table.now) context.now.outcome context.now.net.now
+            (replay context.now.net.now before start)))) result }
     {
-        let last = ending(alloc, net, table, outcome, &self.crowd)?;
-        let wanted = tail_text(alloc, net, &self.crowd, last)?;
-        if let Some(found) = self.line_for_end(alloc, net, spec, round, lacking, last)? {
+        let last = ending(alloc, context, &self.crowd)?;
+        let wanted = tail_text(alloc, context.net, &self.crowd, last)?;
+        if let Some(found) = self.line_for_end(alloc, context, place, last)? {
             return Err(Failure::Fault(VerifyFault::Differs {
-                line,
+                line: place.line,
                 kept: end_text(alloc)?,
                 found,
             }));
         }
-        compare_tail(alloc, tail, &wanted, line + 1)
+        compare_tail(alloc, tail, &wanted, place.line + 1)
     }
 }
 
@@ -266,21 +259,15 @@ fn is_quiet(
 }
 
 /// The last line for a crowd.
-fn ending(
-    alloc: Global,
-    net: &Net,
-    table: &PairTable,
-    outcome: Outcome,
-    crowd: &Crowd,
-) -> Result<Last, NoMemory>
-    requires lanes { HaveSameLanes (table_net table.now) net.now }
-    requires valid { AreValid net.now crowd.now }
+fn ending(alloc: Global, context: &ReplayContext<'_>, crowd: &Crowd) -> Result<Last, NoMemory>
+    requires { AreValid context.now.net.now crowd.now }
     ensures { IfOk result
-        (λ last. last ≡ ending_until (table_net table.now) outcome net.now (crowd_of net.now crowd.now)) }
+        (λ last. last ≡ ending_until (table_net context.now.table.now) context.now.outcome context.now.net.now
+        (crowd_of context.now.net.now crowd.now)) }
 {
-    let found = table.enabled_pair(alloc, crowd)?;
+    let found = context.table.enabled_pair(alloc, crowd)?;
     let _ = crowd.len();
-    Ok(last_for(outcome, found, agreed(net, crowd)))
+    Ok(last_for(context.outcome, found, agreed(context.net, crowd)))
 }
 
 fn last_for(outcome: Outcome, found: Option<(u32, u32)>, output: Option<bool>) -> Last

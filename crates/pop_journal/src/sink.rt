@@ -1,13 +1,10 @@
 //! The text of a run that is being made, so that no round's meetings are kept.
 
-ghost use Rattle.std.specs.Prelude.{◌≤◌, length};
-ghost use Rattle.pop_journal.specs.declared.write.TheConstants.{MEETING_ROOM};
-
-use crate::write::{PAGE_SIZE, push_round, push_run_line};
+use crate::page::Page;
+use crate::write::{push_round, push_run_line};
 use pair_workers::RoundSink;
 use pop_crowd::Meeting;
 use pop_io::NoMemory;
-use pop_lines::Numerals;
 use pop_words::{RunKind, RunSpec};
 use std::alloc::Global;
 
@@ -15,9 +12,7 @@ use std::alloc::Global;
 #[derive(Drop)]
 pub struct WrittenRounds {
     pub text: Vec<u8>,
-    numerals: Numerals,
-    page: Vec<u8>,
-    ghost room: { MEETING_ROOM ≤ length page.items },
+    page: Page,
 }
 
 impl WrittenRounds {
@@ -41,13 +36,8 @@ impl WrittenRounds {
         push_run_line(&mut text, kind, spec)?;
         let meetings = u64::from(spec.workers) * spec.turns;
         let kept = meetings.min(u64::from(agents)) as u32;
-        let numerals = Numerals::new(alloc, kept)?;
-        let page = vec![in alloc; 0; PAGE_SIZE]?;
-        Ok(WrittenRounds {
-            text,
-            numerals,
-            page,
-        })
+        let page = Page::new(alloc, kept)?;
+        Ok(WrittenRounds { text, page })
     }
 
     /// The text with the line `end`.
@@ -56,7 +46,6 @@ impl WrittenRounds {
     {
         let WrittenRounds {
             text: mut ended,
-            numerals: _,
             page: _,
         } = self;
         ended.extend_from_slice(b"end\n")?;
@@ -70,14 +59,7 @@ impl RoundSink for WrittenRounds {
     ghost takes = { writes_round };
 
     fn take(&mut self, number: u64, meetings: Vec<Meeting>) -> Result<(), NoMemory> {
-        let page = self.page.as_mut_slice();
-        push_round(
-            &mut self.text,
-            &self.numerals,
-            page,
-            number,
-            meetings.as_slice(),
-        )?;
+        push_round(&mut self.text, &mut self.page, number, meetings.as_slice())?;
         Ok(())
     }
 }

@@ -17,6 +17,7 @@ use crate::fault::VerifyFault;
 use crate::journal::{Journal, LINE_LIMIT};
 use crate::lacking::lacking_last;
 use crate::last::Outcome;
+use crate::replay_context::{EndPlace, ReplayContext};
 use crate::replayer::Replayer;
 use pair_workers::first_pickers;
 use pop_crowd::Crowd;
@@ -25,6 +26,13 @@ use pop_net::Net;
 use pop_words::{RunSpec, SEED_LIMIT};
 use std::alloc::Global;
 use terminal_test::PairTable;
+
+/// The net in which a run is over once its crowd is terminal, and what is known then.
+#[derive(Clone, Copy)]
+struct Rest<'a> {
+    net: &'a Net,
+    outcome: Outcome,
+}
 
 /// A crowd and its workers before the first round.
 fn first_replayer(
@@ -52,72 +60,71 @@ fn first_replayer(
 /// Compares all lines of a journal after the first, given its workers before the first round.
 fn compare_lines(
     alloc: Global,
-    net: &Net,
-    table: &PairTable,
-    outcome: Outcome,
+    context: &ReplayContext<'_>,
     replayer: &mut Replayer,
-    journal: &Journal,
 ) -> Result<u64, Failure<VerifyFault>>
-    requires lanes { HaveSameLanes (table_net table.now) net.now }
-    requires valid { AreValid net.now replayer.old.crowd }
+    requires valid { AreValid context.now.net.now replayer.old.crowd }
     requires agents { IsCrowdSize (length replayer.old.crowd) }
-    requires stands { IsReplaying net.now (crowd_of net.now replayer.old.crowd) journal.now.spec [] replayer.old }
-    requires first { journal.now.first ≤ LINE_LIMIT }
-    requires spec { IsWithinLimits journal.now.spec }
-    requires rounds { AreWatchedRounds journal.now.spec (length replayer.old.crowd) journal.now.rounds }
-    ensures passes { Passes (journal.now.first + 1)
-        (journal_compared_until (table_net table.now) outcome net.now (crowd_of net.now replayer.old.crowd)
-        journal.now) result }
-    ensures meetings { IfOk result (λ k. k ≡ length (joined journal.now.rounds)) }
+    requires stands { IsReplaying context.now.net.now (crowd_of context.now.net.now replayer.old.crowd)
+        context.now.journal.now.spec [] replayer.old }
+    requires first { context.now.journal.now.first ≤ LINE_LIMIT }
+    requires spec { IsWithinLimits context.now.journal.now.spec }
+    requires rounds { AreWatchedRounds context.now.journal.now.spec (length replayer.old.crowd)
+        context.now.journal.now.rounds }
+    ensures passes { Passes (context.now.journal.now.first + 1)
+        (journal_compared_until (table_net context.now.table.now) context.now.outcome context.now.net.now
+        (crowd_of context.now.net.now replayer.old.crowd) context.now.journal.now) result }
+    ensures meetings { IfOk result (λ k. k ≡ length (joined context.now.journal.now.rounds)) }
 {
+    let journal = context.journal;
     let mut line = journal.first + 1;
     let mut total = 0u64;
     for (k, meetings) in journal.rounds.as_slice().iter().enumerate() {
         let meetings = meetings.as_slice();
-        replayer.compare_round(alloc, net, table, k as u64 + 1, meetings, line)?;
+        replayer.compare_round(alloc, context, k as u64 + 1, meetings, line)?;
         line += 1 + meetings.len() as u64;
         total += meetings.len() as u64;
     }
     let rounds = journal.rounds.as_slice();
-    let round = rounds.len() as u64 + 1;
     let lacking = lacking_last(alloc, &journal.spec, rounds)?;
-    let tail = journal.tail.as_slice();
-    replayer.compare_end(
-        alloc,
-        net,
-        table,
-        outcome,
-        &journal.spec,
-        round,
-        lacking,
-        tail,
+    let place = EndPlace {
         line,
-    )?;
+        round: rounds.len() as u64 + 1,
+        lacking,
+    };
+    let tail = journal.tail.as_slice();
+    replayer.compare_end(alloc, context, place, tail)?;
     Ok(total)
 }
 
-/// Compares all lines of a journal after the first. Its run ends where the crowd is terminal in `rest`.
+/// Compares all lines of a journal after the first.
 fn compare(
     alloc: Global,
     net: &Net,
-    rest: &Net,
-    outcome: Outcome,
+    rest: &Rest<'_>,
     crowd: Crowd,
     journal: &Journal,
 ) -> Result<u64, Failure<VerifyFault>>
-    requires lanes { HaveSameLanes rest.now net.now }
+    requires lanes { HaveSameLanes rest.now.net.now net.now }
     requires valid { AreValid net.now crowd }
     requires first { journal.now.first ≤ LINE_LIMIT }
     requires spec { IsWithinLimits journal.now.spec }
     requires rounds { AreWatchedRounds journal.now.spec (length crowd) journal.now.rounds }
     ensures passes { Passes (journal.now.first + 1)
-        (journal_compared_until rest.now outcome net.now (crowd_of net.now crowd) journal.now) result }
+        (journal_compared_until rest.now.net.now rest.now.outcome net.now (crowd_of net.now crowd)
+        journal.now) result }
     ensures meetings { IfOk result (λ k. k ≡ length (joined journal.now.rounds)) }
     ensures agents { IsCrowdSize (length crowd) }
 {
-    let table = PairTable::new(alloc, rest)?;
+    let table = PairTable::new(alloc, rest.net)?;
     let mut replayer = first_replayer(alloc, net, crowd, &journal.spec)?;
-    compare_lines(alloc, net, &table, outcome, &mut replayer, journal)
+    let context = ReplayContext {
+        net,
+        table: &table,
+        outcome: rest.outcome,
+        journal,
+    };
+    compare_lines(alloc, &context, &mut replayer)
 }
 
 /// Compares each line of a journal after the first with the one expected after the lines before it.
@@ -131,7 +138,11 @@ pub fn verify(
     requires { CanVerify net.now crowd journal.now }
     ensures { IsVerified net.now crowd journal.now result }
 {
-    compare(alloc, net, net, Outcome::Agreed, crowd, journal)
+    let agreed = Rest {
+        net,
+        outcome: Outcome::Agreed,
+    };
+    compare(alloc, net, &agreed, crowd, journal)
 }
 
 /// As `verify`, for a run that is over once no move of `rest` is possible. Its last line is then `settled` with this
@@ -148,5 +159,9 @@ pub fn verify_settled(
     requires can { CanVerify net.now crowd journal.now }
     ensures { IsVerifiedUntil rest.now (Known value) net.now crowd journal.now result }
 {
-    compare(alloc, net, rest, Outcome::Known(value), crowd, journal)
+    let known = Rest {
+        net: rest,
+        outcome: Outcome::Known(value),
+    };
+    compare(alloc, net, &known, crowd, journal)
 }

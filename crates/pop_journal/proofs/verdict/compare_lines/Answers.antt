@@ -17,7 +17,7 @@ use Rattle.pop_journal.proofs.verdict.compare_lines.Goals as goal
 
 pub compare_round-requires-clause-meetings : goal.compare_round-requires-clause-meetings
 compare_round-requires-clause-meetings c =
-    let journal = c.args.journal.now in
+    let journal = c.args.context.now.journal.now in
     let r : List Meeting = c.as_slice-meetings.result.now in
     let is : r ≡ get_or journal.rounds c.loop-k.k r = cc in
     let less : c.loop-k.k < length journal.rounds = subst (λ (rs : List (List Meeting)). c.loop-k.k < length rs) c.as_slice-meetings-items.ensures c.loop-k-test.true in
@@ -25,7 +25,7 @@ compare_round-requires-clause-meetings c =
 
 pub compare_round-requires-clause-workers : goal.compare_round-requires-clause-workers
 compare_round-requires-clause-workers c =
-    let journal = c.args.journal.now in
+    let journal = c.args.context.now.journal.now in
     let r : List Meeting = c.as_slice-meetings.result.now in
     let is : r ≡ get_or journal.rounds c.loop-k.k r = cc in
     let less : c.loop-k.k < length journal.rounds = subst (λ (rs : List (List Meeting)). c.loop-k.k < length rs) c.as_slice-meetings-items.ensures c.loop-k-test.true in
@@ -33,11 +33,11 @@ compare_round-requires-clause-workers c =
 
 pub returns-in_err-compare_round-clause-passes : goal.returns-in_err-compare_round-clause-passes
 returns-in_err-compare_round-clause-passes c =
-    let journal = c.args.journal.now in
+    let journal = c.args.context.now.journal.now in
     let less : c.loop-k.k < length journal.rounds = subst (λ (rs : List (List Meeting)). c.loop-k.k < length rs) c.as_slice-meetings-items.ensures c.loop-k-test.true in
-    let rest = table_net c.args.table.now in
-    let outcome = c.args.outcome in
-    let net = c.args.net.now in
+    let rest = table_net c.args.context.now.table.now in
+    let outcome = c.args.context.now.outcome in
+    let net = c.args.context.now.net.now in
     let start = crowd_of net c.args.replayer.now.crowd in
     let rounds = journal.rounds in
     let k = c.loop-k.k in
@@ -57,11 +57,11 @@ returns-in_err-compare_round-clause-passes c =
 
 pub loop-k-preserved : goal.loop-k-preserved
 loop-k-preserved c =
-    let journal = c.args.journal.now in
+    let journal = c.args.context.now.journal.now in
     let less : c.loop-k.k < length journal.rounds = subst (λ (rs : List (List Meeting)). c.loop-k.k < length rs) c.as_slice-meetings-items.ensures c.loop-k-test.true in
-    let rest = table_net c.args.table.now in
-    let outcome = c.args.outcome in
-    let net = c.args.net.now in
+    let rest = table_net c.args.context.now.table.now in
+    let outcome = c.args.context.now.outcome in
+    let net = c.args.context.now.net.now in
     let start = crowd_of net c.args.replayer.now.crowd in
     let rounds = journal.rounds in
     let was = c.loop-k.invariant in
@@ -95,28 +95,28 @@ loop-k-preserved c =
 pub compare_end-requires-clause-worker : goal.compare_end-requires-clause-worker
 compare_end-requires-clause-worker c =
     let shown : List (List Meeting) = c.as_slice-rounds.result.now in
-    subst (λ (p : Option ℕ × ℕ). IfSome p.0 (λ worker. worker < p.1)) (λ i. (sym c.in_ok-lacking.ensures i, sym c.loop-k.invariant.workers i)) (behind_below c.args.journal.now.spec shown (length shown))
+    subst (λ (p : Option ℕ × ℕ). IfSome p.0 (λ worker. worker < p.1)) (λ i. (sym c.in_ok-lacking.ensures i, sym c.loop-k.invariant.workers i)) (behind_below c.args.context.now.journal.now.spec shown (length shown))
 
 pub returns-clause-passes : goal.returns-clause-passes
 returns-clause-passes c =
-    let journal = c.args.journal.now in
+    let journal = c.args.context.now.journal.now in
     let was = c.loop-k.invariant in
-    let rest = table_net c.args.table.now in
-    let outcome = c.args.outcome in
-    let start = crowd_of c.args.net.now c.args.replayer.now.crowd in
-    end_passes rest outcome c.args.net.now start journal.spec journal.rounds journal.tail c.loop-k.k c.as_slice-rounds.result.now c.in_ok-lacking.lacking c.as_slice-tail.result.now
+    let rest = table_net c.args.context.now.table.now in
+    let outcome = c.args.context.now.outcome in
+    let start = crowd_of c.args.context.now.net.now c.args.replayer.now.crowd in
+    end_passes rest outcome c.args.context.now.net.now start journal.spec journal.rounds journal.tail c.loop-k.k c.as_slice-rounds.result.now c.in_ok-lacking.lacking c.as_slice-tail.result.now
     c.as_slice-rounds.ensures c.in_ok-lacking.ensures c.as_slice-tail.ensures _ c.as_slice-meetings-items.ensures (omega (arith, c.loop-k-test.false, c.loop-k.auto.k-end))
-    (journal.first + 1) c.loop-k.line (journal_compared_until rest outcome c.args.net.now start journal) was.passed (c.in_ok-compare_end.ensures start (joined (take c.loop-k.k journal.rounds)) was.stands)
+    (journal.first + 1) c.loop-k.line (journal_compared_until rest outcome c.args.context.now.net.now start journal) was.passed (c.in_ok-compare_end.ensures start (joined (take c.loop-k.k journal.rounds)) was.stands)
 
 pub returns-in_err-compare_end-clause-passes : goal.returns-in_err-compare_end-clause-passes
 returns-in_err-compare_end-clause-passes c =
-    let journal = c.args.journal.now in
-    let rest = table_net c.args.table.now in
-    let outcome = c.args.outcome in
-    let start = crowd_of c.args.net.now c.args.replayer.now.crowd in
+    let journal = c.args.context.now.journal.now in
+    let rest = table_net c.args.context.now.table.now in
+    let outcome = c.args.context.now.outcome in
+    let start = crowd_of c.args.context.now.net.now c.args.replayer.now.crowd in
     let p = err_from_is_err_and c.from_residual-in_err-compare_end.result c.from_residual-in_err-compare_end.ensures.1 in
     rw (p.1, p.2)
-    (end_differs rest outcome c.args.net.now start journal.spec journal.rounds journal.tail c.loop-k.k c.as_slice-rounds.result.now c.in_ok-lacking.lacking c.as_slice-tail.result.now
+    (end_differs rest outcome c.args.context.now.net.now start journal.spec journal.rounds journal.tail c.loop-k.k c.as_slice-rounds.result.now c.in_ok-lacking.lacking c.as_slice-tail.result.now
     c.as_slice-rounds.ensures c.in_ok-lacking.ensures c.as_slice-tail.ensures _ c.as_slice-meetings-items.ensures (omega (arith, c.loop-k-test.false, c.loop-k.auto.k-end))
-    (journal.first + 1) c.loop-k.line (journal_compared_until rest outcome c.args.net.now start journal) c.loop-k.invariant.passed (Unit {0}) ℕ c.in_err-compare_end.field-0.0
+    (journal.first + 1) c.loop-k.line (journal_compared_until rest outcome c.args.context.now.net.now start journal) c.loop-k.invariant.passed (Unit {0}) ℕ c.in_err-compare_end.field-0.0
     (c.in_err-compare_end.ensures start (joined (take c.loop-k.k journal.rounds)) c.loop-k.invariant.stands))

@@ -9,9 +9,9 @@ use Rattle.pop_journal.proofs.replayer.Replayer.line_for_end.Goals as goal
 
 pub returns-in-Some : goal.returns-in-Some
 returns-in-Some c rest outcome start before h is =
-    let net = c.args.net.now in
-    let spec = c.args.spec.now in
-    let round = c.args.round in
+    let net = c.args.context.now.net.now in
+    let spec = c.args.context.now.journal.now.spec in
+    let round = c.args.place.round in
     let open' : last_is_undecided (ending_until rest outcome net (replay net before start)) ≡ true = ap last_is_undecided (sym is) ∙ sym c.is_undecided.ensures ∙ c.if-not-is_undecided.false in
-    let due = meeting_due rest outcome net start spec before round c.in-Some.worker c.replay_next.result open' (c.replay_next.ensures.next start spec before h).0 in
+    let due = meeting_due rest outcome net start spec before round c.in-Some.worker c.replay_next-found.result open' (c.replay_next-found.ensures.next start spec before h).0 in
     subst (λ (t : Option ℕ × List ℕ). IsForEnd (line_at_end rest net start spec before round t.0) (Some t.1)) (λ i. (sym c.in-Some.is i, sym c.in_ok-meeting_text.ensures i)) due
