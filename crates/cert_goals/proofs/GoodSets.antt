@@ -13,7 +13,7 @@ use Rattle.cert_layers.specs.LayerFaults.{Each}
 use Rattle.pop_hushed.specs.Hushed.{hushed}
 use Rattle.cert_goals.specs.declared.fault.SetFault.{SetFault}
 use Rattle.cert_goals.specs.declared.fault.SetFault.TheVariants.{Output, Leaves, Wakes}
-use Rattle.cert_goals.specs.Stays.{escapes, SleepIn, IsGuardedAt, IsGuarded}
+use Rattle.goal_sets.specs.Stays.{escapes, SleepIn, IsGuardedAt, IsGuarded}
 use Rattle.cert_goals.specs.SetFaults.{HasOutput, IsGoodSet, AreGoodSets, IsLeft, IsBadBy, AreBadBy, ChecksSets}
 use Rattle.cert_goals.specs.SetSearch.{FindsLeft, fault_of_woken}
 use Rattle.cert_goals.specs.SetTests.{FindsWoken}

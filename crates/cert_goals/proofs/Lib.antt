@@ -1,8 +1,7 @@
 pub mod Awake
-pub mod Escapes
+mod Guarded
 pub mod Goals
 mod GoodSets
-pub mod Possible
 pub mod Ways
 pub mod Woken
 pub mod ValidGoals

@@ -1,9 +1,7 @@
 pub mod GoalLaws
-pub mod Reached
 pub mod SetFaults
 pub mod SetSearch
 pub mod SetTests
 pub mod SomeLayers
-pub mod Stays
 pub mod ValidGoal
 pub mod GoalParts

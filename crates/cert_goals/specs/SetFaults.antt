@@ -7,7 +7,7 @@ use Rattle.cert_base.specs.declared.limits.TheConstants.{SET_LIMIT}
 use Rattle.cert_layers.specs.LayerFaults.{Each, IsFirstFailing}
 use Rattle.cert_goals.specs.declared.fault.SetFault.{SetFault}
 use Rattle.cert_goals.specs.declared.fault.SetFault.TheVariants.{Output, Leaves, Wakes}
-use Rattle.cert_goals.specs.Stays.{escapes, SleepsFor, SleepIn, IsGuardedAt, Stays}
+use Rattle.goal_sets.specs.Stays.{escapes, SleepsFor, SleepIn, IsGuardedAt, Stays}
 
 -- there is such a state, and its output is the value
 abbrev pub HasOutput : LeafModel → Bool → ℕ → Type 0

@@ -3,7 +3,7 @@ use Rattle.std.specs.Prelude.{ℕ, Bool, List, Option, Some, None, All}
 use Rattle.pop_net.specs.LeafModel.{LeafModel}
 use Rattle.cert_goals.specs.declared.fault.SetFault.{SetFault}
 use Rattle.cert_goals.specs.declared.fault.SetFault.TheVariants.{Wakes}
-use Rattle.cert_goals.specs.Stays.{IsGuarded}
+use Rattle.goal_sets.specs.Stays.{IsGuarded}
 use Rattle.cert_goals.specs.SetFaults.{HasOutput, IsFirstOther, IsLeft}
 
 -- the first state of the set that doesn't have the value as its output, if there is one

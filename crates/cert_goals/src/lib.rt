@@ -1,5 +1,5 @@
 //! Goals: layers of some moves of a leaf, sets of states that stay once all agents are in them, and a tree.
-//! It stands on `pop_hushed`, `cert_layers`, `cert_traps` and `cert_tree`.
+//! It stands on `goal_sets`, `pop_hushed`, `cert_layers`, `cert_traps` and `cert_tree`.
 //! The layer above uses: `check_goal` accepts exactly valid goals, and `valid_goals_hold` says what they give.
 #![tactic(auto)]
 

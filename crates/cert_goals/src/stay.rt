@@ -3,7 +3,7 @@
 ghost use Rattle.std.specs.Prelude.{◌≡◌, IfOk, MatchBool};
 ghost use Rattle.pop_net.specs.LeafModel.{IsLeaf};
 ghost use Rattle.pop_hushed.specs.Hushed.{hushed};
-ghost use Rattle.cert_goals.specs.Stays.{escapes, SleepIn};
+ghost use Rattle.goal_sets.specs.Stays.{escapes, SleepIn};
 ghost use Rattle.cert_goals.specs.SetTests.{FindsWoken};
 ghost use Rattle.cert_goals.specs.SetSearch.{FindsLeft, fault_of_woken};
 

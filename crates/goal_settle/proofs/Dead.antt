@@ -10,7 +10,7 @@ use Rattle.cert_base.specs.declared.proof.Proof.{Proof}
 use Rattle.cert_base.specs.declared.proof.LeafProof.{LeafProof}
 use Rattle.cert_base.specs.ValidLayers.{moves_of_layers}
 use Rattle.cert_layers.proofs.Termination.{listed_at}
-use Rattle.cert_goals.specs.Reached.{IsDeadFor}
+use Rattle.goal_sets.specs.Reached.{IsDeadFor}
 use Rattle.pop_settle.specs.declared.take.Take.{Take}
 use Rattle.pop_settle.specs.Settlement.{states_in, CanTake}
 

@@ -28,8 +28,9 @@ use Rattle.cert_base.specs.StableProof.{pred_of_part}
 use Rattle.cert_base.specs.ValidLayers.{moves_of_layers}
 use Rattle.cert_base.specs.ValidProof.{ValidLeafProof}
 use Rattle.cert_layers.proofs.Termination.{leads-append}
-use Rattle.cert_goals.specs.Reached.{IsDeadFor, IsAtGoal}
-use Rattle.cert_goals.specs.GoalLaws.{IsClosedGoal, goal_for}
+use Rattle.goal_sets.specs.Reached.{IsDeadFor, IsAtGoal}
+use Rattle.goal_sets.specs.ClosedGoal.{IsClosedGoal}
+use Rattle.cert_goals.specs.GoalLaws.{goal_for}
 use Rattle.cert_goals.specs.SomeLayers.{layered}
 use Rattle.cert_goals.specs.ValidGoal.{moves_of_goal, sets_of_goal}
 use Rattle.cert_goals.proofs.ValidGoals.{all_valid_hold}

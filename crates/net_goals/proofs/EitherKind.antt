@@ -19,7 +19,7 @@ use Rattle.cert_base.specs.ValidLayers.{ValidLayers}
 use Rattle.cert_base.specs.Ends.{EndsRight}
 use Rattle.cert_base.proofs.InRange.{end_in_range}
 use Rattle.cert_layers.proofs.Termination.{leads-append, valid_layers-end}
-use Rattle.cert_goals.specs.Reached.{IsAtGoal}
+use Rattle.goal_sets.specs.Reached.{IsAtGoal}
 use Rattle.list_laws.proofs.Options.{item_within, same_value}
 use Rattle.net_goals.specs.StablyRight.{IsStablyRight}
 use Rattle.net_goals.specs.LeafGoals.{IsLeafGoalFrom, IsLeafGoal, LeafPart, parts_bound, HasLeafGoals}

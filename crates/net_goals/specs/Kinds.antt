@@ -11,8 +11,8 @@ use Rattle.pop_net.specs.Step.{LeafStep}
 use Rattle.pop_net.specs.Reachable.{Reachable, ReachedWithin}
 use Rattle.pop_net.specs.Terminal.{IsTerminal}
 use Rattle.cert_base.specs.Ends.{EndsRight}
-use Rattle.cert_goals.specs.Reached.{IsAtGoal}
-use Rattle.cert_goals.specs.GoalLaws.{IsClosedGoal, ComesToGoal}
+use Rattle.goal_sets.specs.Reached.{IsAtGoal}
+use Rattle.goal_sets.specs.ClosedGoal.{IsClosedGoal, ComesToGoal}
 use Rattle.net_goals.specs.LeafGoals.{LeafPart, PartsCombineTo}
 
 -- moves that lead to sets of states, and how many of them that takes for each agent

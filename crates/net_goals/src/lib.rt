@@ -1,5 +1,5 @@
 //! From leaves to the net: if each leaf comes to a set of right crowds that no step leaves, the net is stably right.
-//! It stands on `pop_fair` and `pop_random`; a leaf's sets are those of `cert_goals`, or it falls silent (`cert_base`).
+//! It stands on `pop_fair` and `pop_random`; a leaf's sets are those of `goal_sets`, or it falls silent (`cert_base`).
 //! The layer above uses: the law of such leaves, silent ones among them.
 #![tactic(auto)]
 

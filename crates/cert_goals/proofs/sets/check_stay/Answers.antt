@@ -1,7 +1,7 @@
 use Rattle.std.proofs.Common.{inr, List, ℕ, subst}
 use Rattle.std.specs.Prelude.{Option}
 use Rattle.cert_goals.specs.declared.fault.SetFault.{SetFault}
-use Rattle.cert_goals.specs.Stays.{SleepIn}
+use Rattle.goal_sets.specs.Stays.{SleepIn}
 use Rattle.cert_goals.specs.SetFaults.{IsLeft}
 use Rattle.cert_goals.specs.SetSearch.{FindsLeft}
 use Rattle.cert_goals.proofs.GoodSets.{left_bad}

@@ -4,7 +4,7 @@ use Rattle.std.proofs.lemmas.Bool.{and_parts, not-true}
 use Rattle.pop_net.specs.LeafModel.{IsMoveBelow, silent_move}
 use Rattle.pop_net.proofs.Quiet.{All-slice_get}
 use Rattle.pop_net.proofs.Within.{move_small}
-use Rattle.cert_goals.specs.Stays.{takes_within}
+use Rattle.goal_sets.specs.Stays.{takes_within}
 use Rattle.cert_goals.specs.SetTests.{is_silent_move}
 use Rattle.cert_goals.proofs.Woken.{finds_none, finds_beside}
 use Rattle.cert_goals.proofs.sleep.woken_by.Goals as goal

@@ -8,7 +8,7 @@ use Rattle.pop_net.specs.Reachable.{Reachable}
 use Rattle.pop_net.specs.Terminal.{IsTerminal}
 use Rattle.pop_hushed.specs.Hushed.{hushed}
 use Rattle.cert_base.specs.GoalEnds.{IsWithin, EndsInside}
-use Rattle.cert_goals.specs.Stays.{escapes, IsGuarded}
+use Rattle.goal_sets.specs.Stays.{escapes, IsGuarded}
 
 -- none of these moves is possible
 abbrev pub IsDeadFor : LeafModel → List ℕ → List ℕ → Type 0

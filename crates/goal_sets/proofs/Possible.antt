@@ -15,9 +15,9 @@ use Rattle.cert_base.proofs.Numbers.{number_in, number_in-meets, before_pre, aft
 use Rattle.pop_hushed.specs.Laws.{IsKeptMove}
 use Rattle.pop_hushed.proofs.Crowds.{terminal_none, none_terminal}
 use Rattle.pop_hushed.proofs.Kept.{kept_listed, listed_kept}
-use Rattle.cert_goals.specs.Stays.{takes_within, escapes, IsRestWithin, SleepIn}
-use Rattle.cert_goals.specs.Reached.{IsDeadFor}
-use Rattle.cert_goals.proofs.Escapes.{is_escape}
+use Rattle.goal_sets.specs.Stays.{takes_within, escapes, IsRestWithin, SleepIn}
+use Rattle.goal_sets.specs.Reached.{IsDeadFor}
+use Rattle.goal_sets.proofs.Escapes.{is_escape}
 
 module _ (leaf : LeafModel) (moves crowd : List ℕ) where
   pub dead_none : IsDeadFor leaf moves crowd → (n : ℕ) (u : Move) → IsKeptMove leaf moves n u → IsEnabledIn crowd u → ⊥

@@ -1,0 +1,3 @@
+pub mod Escapes
+pub mod Possible
+pub mod CrowdsStay
