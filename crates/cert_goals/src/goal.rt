@@ -2,27 +2,33 @@
 
 ghost use Rattle.std.specs.Prelude.{◌≡◌, ◌<◌, ◌∷◌, [], not, length, slice_index_or, false, IfOk, OnOk};
 ghost use Rattle.pop_io.specs.Failures.{IfFault, OnlyMemory};
-ghost use Rattle.cert_base.specs.FactsAndCases.{differs, states_with};
+ghost use Rattle.cert_base.specs.FactsAndCases.{differs, sets_of, states_with};
 ghost use Rattle.cert_base.specs.ProofBound.{layers_bound};
 ghost use Rattle.cert_base.specs.ValidLayers.{moves_of_layers, ValidLayers};
 ghost use Rattle.cert_layers.specs.LayerFaults.{AreLayersWithin};
 ghost use Rattle.cert_tree.specs.Refusals.{AreNodesOf};
 ghost use Rattle.cert_goals.specs.SetFaults.{AreSetsWithin, AreGoodSets};
 ghost use Rattle.cert_goals.specs.SomeLayers.{layered};
-ghost use Rattle.cert_goals.specs.ValidGoal.{sets_of_goal, IsGoalOf, ChecksGoal};
+ghost use Rattle.cert_goals.specs.ValidGoal.{IsGoalOf, ChecksGoal};
 ghost use Rattle.cert_goals.specs.GoalParts.{IsLayersFault, IsSetsFault, NodesClose, IsNodesFault, ChecksRest};
 
 use crate::fault::GoalWhy;
-use crate::layers::check_some_layers;
-use crate::listed::listed_moves;
-use crate::sets::check_sets;
-use cert_base::{Goal, Layer};
+use crate::goal_moves::{GoalMoves, kept_leaf};
+use crate::layers::checked_layers;
+use crate::sets::checked_sets;
+use cert_base::{Goal, Node};
 use cert_tree::check_goal_tree;
-use pop_hushed::hushed_leaf;
 use pop_io::{Failure, List, NoMemory};
 use pop_net::Leaf;
 use pres_ast::Pred;
 use std::alloc::Global;
+
+/// The value that all agents are to output, and the predicate that has it at their input.
+#[derive(Clone, Copy)]
+struct Aim<'a> {
+    pred: &'a Pred,
+    value: bool,
+}
 
 /// Whether the goal is valid for the leaf, its predicate and the value, and its bound for each agent.
 pub fn check_goal(
@@ -35,74 +41,86 @@ pub fn check_goal(
     requires { IsGoalOf leaf.now pred.now goal.now }
     ensures { ChecksGoal leaf.now pred.now value goal.now result }
 {
-    let bound = check_order(alloc, leaf, &goal.layers)?;
-    check_sets_and_nodes(alloc, leaf, pred, value, goal)?;
+    let kept = kept_leaf(alloc, leaf, &goal.layers)?;
+    let given = GoalMoves {
+        leaf,
+        layers: &goal.layers,
+        kept: &kept,
+    };
+    let aim = Aim { pred, value };
+    let bound = check_order(alloc, &given)?;
+    check_sets_and_nodes(alloc, &given, &aim, &goal.sets, &goal.nodes)?;
     Ok(bound)
 }
 
-fn check_order(alloc: Global, leaf: &Leaf, layers: &List<Layer>) -> Result<u64, Failure<GoalWhy>>
-    requires { AreLayersWithin layers.now }
-    ensures valid { IfOk result (λ bound. ValidLayers (layered leaf.now layers.now) layers.now
-        × (bound ≡ layers_bound layers.now)) }
-    ensures fault { IfFault result (IsLayersFault leaf.now layers.now) }
-    ensures accepts { ValidLayers (layered leaf.now layers.now) layers.now → OnlyMemory result }
+fn check_order(alloc: Global, given: &GoalMoves<'_>) -> Result<u64, Failure<GoalWhy>>
+    requires { AreLayersWithin given.now.layers.now }
+    ensures valid { IfOk result (λ bound.
+        ValidLayers (layered given.now.leaf.now given.now.layers.now) given.now.layers.now
+        × (bound ≡ layers_bound given.now.layers.now)) }
+    ensures fault { IfFault result (IsLayersFault given.now.leaf.now given.now.layers.now) }
+    ensures accepts { ValidLayers (layered given.now.leaf.now given.now.layers.now) given.now.layers.now
+        → OnlyMemory result }
 {
-    match check_some_layers(alloc, leaf, layers) {
+    match checked_layers(alloc, given) {
         Ok(bound) => Ok(bound),
         Err(Failure::Fault(why)) => Err(Failure::Fault(GoalWhy::Layers(why))),
         Err(Failure::NoMemory) => Err(Failure::NoMemory),
     }
 }
 
-/// First the sets in order, then the nodes.
+/// First the sets in order, then the nodes. No set stands for the one of all states with the value as their output.
 fn check_sets_and_nodes(
     alloc: Global,
-    leaf: &Leaf,
-    pred: &Pred,
-    value: bool,
-    goal: &Goal,
+    given: &GoalMoves<'_>,
+    aim: &Aim<'_>,
+    sets: &List<List<u16>>,
+    nodes: &List<Node>,
 ) -> Result<(), Failure<GoalWhy>>
-    requires { IsGoalOf leaf.now pred.now goal.now }
-    ensures { ChecksRest leaf.now pred.now value goal.now (sets_of_goal leaf.now value goal.now) result }
+    requires sets { AreSetsWithin sets.now }
+    requires nodes { AreNodesOf given.now.leaf.now aim.now.pred.now nodes.now }
+    ensures { ChecksRest given.now.leaf.now given.now.layers.now aim.now.pred.now aim.now.value
+        (sets_of given.now.leaf.now aim.now.value sets.now) nodes.now result }
 {
-    if goal.sets.as_slice().is_empty() {
-        let sets = all_with_output(alloc, leaf, value)?;
-        check_rest(alloc, leaf, pred, value, goal, &sets)
+    if sets.as_slice().is_empty() {
+        let all = all_with_output(alloc, given.leaf, aim.value)?;
+        check_rest(alloc, given, aim, &all, nodes)
     } else {
-        check_rest(alloc, leaf, pred, value, goal, &goal.sets)
+        check_rest(alloc, given, aim, sets, nodes)
     }
 }
 
-/// The same with these sets for those of the goal.
+/// The same with these sets.
 fn check_rest(
     alloc: Global,
-    leaf: &Leaf,
-    pred: &Pred,
-    value: bool,
-    goal: &Goal,
+    given: &GoalMoves<'_>,
+    aim: &Aim<'_>,
     sets: &List<List<u16>>,
+    nodes: &List<Node>,
 ) -> Result<(), Failure<GoalWhy>>
     requires sets { AreSetsWithin sets.now }
-    requires nodes { AreNodesOf leaf.now pred.now goal.now.nodes }
-    ensures { ChecksRest leaf.now pred.now value goal.now sets.now result }
+    requires nodes { AreNodesOf given.now.leaf.now aim.now.pred.now nodes.now }
+    ensures { ChecksRest given.now.leaf.now given.now.layers.now aim.now.pred.now aim.now.value sets.now nodes.now
+        result }
 {
-    check_all_sets(alloc, leaf, &goal.layers, value, sets)?;
-    check_nodes(alloc, leaf, pred, value, goal, sets)
+    check_all_sets(alloc, given, aim.value, sets)?;
+    check_nodes(alloc, given, aim, sets, nodes)
 }
 
 fn check_all_sets(
     alloc: Global,
-    leaf: &Leaf,
-    layers: &List<Layer>,
+    given: &GoalMoves<'_>,
     value: bool,
     sets: &List<List<u16>>,
 ) -> Result<(), Failure<GoalWhy>>
     requires { AreSetsWithin sets.now }
-    ensures good { OnOk result (AreGoodSets leaf.now (moves_of_layers layers.now) value sets.now) }
-    ensures fault { IfFault result (IsSetsFault leaf.now layers.now value sets.now) }
-    ensures accepts { AreGoodSets leaf.now (moves_of_layers layers.now) value sets.now → OnlyMemory result }
+    ensures good { OnOk result
+        (AreGoodSets given.now.leaf.now (moves_of_layers given.now.layers.now) value sets.now) }
+    ensures fault { IfFault result (IsSetsFault given.now.leaf.now given.now.layers.now value sets.now) }
+    ensures accepts { AreGoodSets given.now.leaf.now (moves_of_layers given.now.layers.now) value sets.now
+        → OnlyMemory result }
 {
-    match check_sets(alloc, leaf, layers, value, sets) {
+    match checked_sets(alloc, given, value, sets) {
         Ok(()) => Ok(()),
         Err(Failure::Fault(fault)) => Err(Failure::Fault(GoalWhy::Set(fault))),
         Err(Failure::NoMemory) => Err(Failure::NoMemory),
@@ -111,21 +129,23 @@ fn check_all_sets(
 
 fn check_nodes(
     alloc: Global,
-    leaf: &Leaf,
-    pred: &Pred,
-    value: bool,
-    goal: &Goal,
+    given: &GoalMoves<'_>,
+    aim: &Aim<'_>,
     sets: &List<List<u16>>,
+    nodes: &List<Node>,
 ) -> Result<(), Failure<GoalWhy>>
     requires sets { AreSetsWithin sets.now }
-    requires nodes { AreNodesOf leaf.now pred.now goal.now.nodes }
-    ensures closes { OnOk result (NodesClose leaf.now pred.now value goal.now sets.now) }
-    ensures fault { IfFault result (IsNodesFault leaf.now pred.now value goal.now sets.now) }
-    ensures accepts { NodesClose leaf.now pred.now value goal.now sets.now → OnlyMemory result }
+    requires nodes { AreNodesOf given.now.leaf.now aim.now.pred.now nodes.now }
+    ensures closes { OnOk result
+        (NodesClose given.now.leaf.now given.now.layers.now aim.now.pred.now aim.now.value sets.now nodes.now) }
+    ensures fault { IfFault result
+        (IsNodesFault given.now.leaf.now given.now.layers.now aim.now.pred.now aim.now.value sets.now nodes.now) }
+    ensures accepts { let leaf = given.now.leaf.now in
+        NodesClose leaf given.now.layers.now aim.now.pred.now aim.now.value sets.now nodes.now → OnlyMemory result }
 {
-    let moves = listed_moves(alloc, goal.layers.as_slice())?;
-    let dead = hushed_leaf(alloc, leaf, moves.as_slice())?;
-    match check_goal_tree(alloc, leaf, &dead, pred, value, sets, &goal.nodes) {
+    match check_goal_tree(
+        alloc, given.leaf, given.kept, aim.pred, aim.value, sets, nodes,
+    ) {
         Ok(()) => Ok(()),
         Err(Failure::Fault(fault)) => Err(Failure::Fault(GoalWhy::Node(fault))),
         Err(Failure::NoMemory) => Err(Failure::NoMemory),

@@ -3,10 +3,9 @@
 ghost use Rattle.cert_layers.specs.LayerFaults.{AreLayersWithin};
 ghost use Rattle.cert_goals.specs.SomeLayers.{ChecksSomeLayers};
 
-use crate::listed::listed_moves;
+use crate::goal_moves::{GoalMoves, kept_leaf};
 use cert_base::Layer;
 use cert_layers::{LayerWhy, check_layers};
-use pop_hushed::hushed_leaf;
 use pop_io::{Failure, List};
 use pop_net::Leaf;
 use std::alloc::Global;
@@ -21,7 +20,19 @@ pub fn check_some_layers(
     requires { AreLayersWithin layers.now }
     ensures { ChecksSomeLayers leaf.now layers.now result }
 {
-    let moves = listed_moves(alloc, layers.as_slice())?;
-    let hushed = hushed_leaf(alloc, leaf, moves.as_slice())?;
-    check_layers(alloc, &hushed, layers)
+    let kept = kept_leaf(alloc, leaf, layers)?;
+    let given = GoalMoves {
+        leaf,
+        layers,
+        kept: &kept,
+    };
+    checked_layers(alloc, &given)
+}
+
+/// The same, with the leaf that keeps these moves alone.
+pub(crate) fn checked_layers(alloc: Global, given: &GoalMoves<'_>) -> Result<u64, Failure<LayerWhy>>
+    requires { AreLayersWithin given.now.layers.now }
+    ensures { ChecksSomeLayers given.now.leaf.now given.now.layers.now result }
+{
+    check_layers(alloc, given.kept, given.layers)
 }

@@ -6,6 +6,7 @@
 mod escape;
 mod fault;
 mod goal;
+mod goal_moves;
 mod law;
 mod layers;
 mod listed;

@@ -1,20 +1,17 @@
 //! The check of the sets of a goal.
 
-ghost use Rattle.std.specs.Prelude.{◌≡◌, All, OnOk};
+ghost use Rattle.std.specs.Prelude.{All, OnOk};
 ghost use Rattle.pop_io.specs.Failures.{IfFault};
-ghost use Rattle.pop_net.specs.LeafModel.{IsLeaf};
-ghost use Rattle.pop_hushed.specs.Hushed.{hushed};
 ghost use Rattle.cert_base.specs.ValidLayers.{moves_of_layers};
 ghost use Rattle.cert_goals.specs.SetFaults.{AreSetsWithin, ChecksSets, HasOutput, IsGoodSet, IsBadBy};
 ghost use Rattle.cert_goals.specs.SetFaults.{AreGoodSets, AreBadBy};
 
 use crate::fault::SetFault;
-use crate::listed::listed_moves;
+use crate::goal_moves::{GoalMoves, kept_leaf};
 use crate::outputs::first_other;
 use crate::stay::{is_settled, left_by};
 use cert_base::Layer;
 use cert_traps::StateSet;
-use pop_hushed::hushed_leaf;
 use pop_io::{Failure, List};
 use pop_net::Leaf;
 use std::alloc::Global;
@@ -30,77 +27,86 @@ pub fn check_sets(
     requires { AreSetsWithin sets.now }
     ensures { ChecksSets leaf.now (moves_of_layers layers.now) value sets.now result }
 {
-    let moves = listed_moves(alloc, layers.as_slice())?;
-    let kept = hushed_leaf(alloc, leaf, moves.as_slice())?;
-    checked(alloc, leaf, moves.as_slice(), &kept, value, sets.as_slice())
+    let kept = kept_leaf(alloc, leaf, layers)?;
+    let given = GoalMoves {
+        leaf,
+        layers,
+        kept: &kept,
+    };
+    checked_sets(alloc, &given, value, sets)
 }
 
 /// The same, with the leaf that keeps these moves alone.
-fn checked(
+pub(crate) fn checked_sets(
     alloc: Global,
-    leaf: &Leaf,
-    moves: &[u32],
-    kept: &Leaf,
+    given: &GoalMoves<'_>,
+    value: bool,
+    sets: &List<List<u16>>,
+) -> Result<(), Failure<SetFault>>
+    requires { AreSetsWithin sets.now }
+    ensures { ChecksSets given.now.leaf.now (moves_of_layers given.now.layers.now) value sets.now result }
+{
+    each_checked(alloc, given, value, sets.as_slice())
+}
+
+fn each_checked(
+    alloc: Global,
+    given: &GoalMoves<'_>,
     value: bool,
     sets: &[List<u16>],
 ) -> Result<(), Failure<SetFault>>
-    requires few { AreSetsWithin sets.now }
-    requires kept { kept.now ≡ hushed leaf.now moves.now }
-    ensures good { OnOk result (AreGoodSets leaf.now moves.now value sets.now) }
-    ensures fault { IfFault result (AreBadBy leaf.now moves.now value sets.now) }
+    requires { AreSetsWithin sets.now }
+    ensures good { OnOk result
+        (AreGoodSets given.now.leaf.now (moves_of_layers given.now.layers.now) value sets.now) }
+    ensures fault { IfFault result
+        (AreBadBy given.now.leaf.now (moves_of_layers given.now.layers.now) value sets.now) }
 {
-    // What the invariant says is known from here on.
-    let _formed = leaf.state_count();
     for (j, set) in sets.iter().enumerate() {
-        check_set(alloc, leaf, moves, kept, value, set, j as u32)?;
+        check_set(alloc, given, value, set, j as u32)?;
     }
     Ok(())
 }
 
 fn check_set(
     alloc: Global,
-    leaf: &Leaf,
-    moves: &[u32],
-    kept: &Leaf,
+    given: &GoalMoves<'_>,
     value: bool,
     set: &List<u16>,
     number: u32,
 ) -> Result<(), Failure<SetFault>>
-    requires formed { IsLeaf leaf.now }
-    requires kept { kept.now ≡ hushed leaf.now moves.now }
-    ensures good { OnOk result (IsGoodSet leaf.now moves.now value set.now) }
-    ensures fault { IfFault result (IsBadBy leaf.now moves.now value number set.now) }
+    ensures good { OnOk result
+        (IsGoodSet given.now.leaf.now (moves_of_layers given.now.layers.now) value set.now) }
+    ensures fault { IfFault result
+        (IsBadBy given.now.leaf.now (moves_of_layers given.now.layers.now) value number set.now) }
 {
-    if let Some(q) = first_other(leaf, value, set.as_slice()) {
+    if let Some(q) = first_other(given.leaf, value, set.as_slice()) {
         return Err(Failure::Fault(SetFault::Output {
             set: number,
             state: q,
         }));
     }
-    check_stay(alloc, leaf, moves, kept, value, set, number)
+    check_stay(alloc, given, value, set, number)
 }
 
 /// The same for a set whose states have the value as their output.
 fn check_stay(
     alloc: Global,
-    leaf: &Leaf,
-    moves: &[u32],
-    kept: &Leaf,
+    given: &GoalMoves<'_>,
     value: bool,
     set: &List<u16>,
     number: u32,
 ) -> Result<(), Failure<SetFault>>
-    requires formed { IsLeaf leaf.now }
-    requires kept { kept.now ≡ hushed leaf.now moves.now }
-    requires right { All (HasOutput leaf.now value) set.now }
-    ensures good { OnOk result (IsGoodSet leaf.now moves.now value set.now) }
-    ensures fault { IfFault result (IsBadBy leaf.now moves.now value number set.now) }
+    requires { All (HasOutput given.now.leaf.now value) set.now }
+    ensures good { OnOk result
+        (IsGoodSet given.now.leaf.now (moves_of_layers given.now.layers.now) value set.now) }
+    ensures fault { IfFault result
+        (IsBadBy given.now.leaf.now (moves_of_layers given.now.layers.now) value number set.now) }
 {
     let members = StateSet::new(alloc, set)?;
-    let Some(fault) = left_by(alloc, leaf, moves, kept, &members, number)? else {
+    let Some(fault) = left_by(alloc, given, &members, number)? else {
         return Ok(());
     };
-    if is_settled(leaf, moves, kept, &members) {
+    if is_settled(given, &members) {
         return Ok(());
     }
     Err(Failure::Fault(fault))

@@ -3,12 +3,14 @@
 ghost use Rattle.std.specs.Prelude.{◌≡◌, IfOk, MatchBool};
 ghost use Rattle.pop_net.specs.LeafModel.{IsLeaf};
 ghost use Rattle.pop_hushed.specs.Hushed.{hushed};
+ghost use Rattle.cert_base.specs.ValidLayers.{moves_of_layers};
 ghost use Rattle.goal_sets.specs.Stays.{escapes, SleepIn};
 ghost use Rattle.cert_goals.specs.SetTests.{FindsWoken};
 ghost use Rattle.cert_goals.specs.SetSearch.{FindsLeft, fault_of_woken};
 
 use crate::escape::{escapes_of, first_unguarded};
 use crate::fault::SetFault;
+use crate::goal_moves::GoalMoves;
 use crate::sleep::first_woken;
 use cert_traps::StateSet;
 use pop_hushed::hushed_leaf;
@@ -17,34 +19,31 @@ use pop_net::Leaf;
 use std::alloc::Global;
 
 /// Whether no move outside these that takes two states of the set wakes one of them there.
-pub(crate) fn is_settled(leaf: &Leaf, moves: &[u32], kept: &Leaf, members: &StateSet) -> bool
-    requires formed { IsLeaf leaf.now }
-    requires kept { kept.now ≡ hushed leaf.now moves.now }
-    ensures { MatchBool result (SleepIn leaf.now members.now moves.now) (¬ SleepIn leaf.now members.now moves.now) }
+pub(crate) fn is_settled(given: &GoalMoves<'_>, members: &StateSet) -> bool
+    ensures { MatchBool result
+        (SleepIn given.now.leaf.now members.now (moves_of_layers given.now.layers.now))
+        (¬ SleepIn given.now.leaf.now members.now (moves_of_layers given.now.layers.now)) }
 {
-    first_woken(leaf, kept, members).is_none()
+    first_woken(given.leaf, given.kept, members).is_none()
 }
 
 /// Why the set isn't guarded, if it isn't.
 pub(crate) fn left_by(
     alloc: Global,
-    leaf: &Leaf,
-    moves: &[u32],
-    kept: &Leaf,
+    given: &GoalMoves<'_>,
     members: &StateSet,
     number: u32,
 ) -> Result<Option<SetFault>, NoMemory>
-    requires formed { IsLeaf leaf.now }
-    requires kept { kept.now ≡ hushed leaf.now moves.now }
-    ensures { IfOk result (FindsLeft leaf.now moves.now number members.now) }
+    ensures { IfOk result
+        (FindsLeft given.now.leaf.now (moves_of_layers given.now.layers.now) number members.now) }
 {
-    if let Some(t) = first_unguarded(leaf, kept, members) {
+    if let Some(t) = first_unguarded(given.leaf, given.kept, members) {
         return Ok(Some(SetFault::Leaves {
             set: number,
             move_number: t,
         }));
     }
-    let found = woken_escape(alloc, leaf, members)?;
+    let found = woken_escape(alloc, given.leaf, members)?;
     Ok(woken_fault(number, found))
 }
 
