@@ -1,4 +1,4 @@
-mod LeafKinds
+pub mod LeafKinds
 mod Valid
 mod Bounds
 mod OneSetFault

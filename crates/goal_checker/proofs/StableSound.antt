@@ -55,7 +55,7 @@ combines : (net : NetModel) (proof : StableProof) (p : PredModel) → length pro
 combines net proof p e valid =
     subst (λ (ts : List PredTree). combined (trees ts) net.combine ≡ Some p.tree) (sym (kinds_trees net.leaves proof.leaves e)) valid.combination
 
-rests : (net : NetModel) (proof : StableProof) (p : PredModel) → IsNet net → AreStablePreds net proof → ValidStableProof net p proof → ComeToRest net p.tree (kinds_of net.leaves proof.leaves)
+pub rests : (net : NetModel) (proof : StableProof) (p : PredModel) → IsNet net → AreStablePreds net proof → ValidStableProof net p proof → ComeToRest net p.tree (kinds_of net.leaves proof.leaves)
 rests net proof p is preds valid =
     record {
       one_each = kinds_length net.leaves proof.leaves valid.one_each;

@@ -9,10 +9,11 @@ use Rattle.std.proofs.lemmas.Option.{slice_get_within, slice_get-map, same_Some}
 use Rattle.pres_ast.specs.PredTree.{PredTree}
 use Rattle.pres_ast.specs.PredicateValue.{predicate_value}
 use Rattle.pop_net.specs.LeafModel.{LeafModel, IsLeaf}
-use Rattle.pop_net.specs.NetModel.{NetModel, IsNet}
+use Rattle.pop_net.specs.NetModel.{NetModel, CrowdModel, IsTuple, IsNet, number_of_helpers}
 use Rattle.pop_net.specs.InputCrowd.{IsInput, leaf_input_crowd}
 use Rattle.pop_net.specs.Step.{LeafChange, LeafStep}
 use Rattle.pop_net.proofs.Permutations.{terminal_permuted}
+use Rattle.pop_net.proofs.Projection.{component}
 use Rattle.cert_base.specs.declared.layer.Layer.{Layer}
 use Rattle.cert_base.specs.ProofBound.{layers_bound}
 use Rattle.cert_base.specs.ValidLayers.{ValidLayers}
@@ -21,10 +22,12 @@ use Rattle.cert_base.proofs.InRange.{end_in_range}
 use Rattle.cert_layers.proofs.Termination.{leads-append, valid_layers-end}
 use Rattle.goal_sets.specs.Reached.{IsAtGoal}
 use Rattle.list_laws.proofs.Options.{item_within, same_value}
+use Rattle.net_goals.specs.OutputStable.{IsOutputStable}
 use Rattle.net_goals.specs.StablyRight.{IsStablyRight}
 use Rattle.net_goals.specs.LeafGoals.{IsLeafGoalFrom, IsLeafGoal, LeafPart, parts_bound, HasLeafGoals}
 use Rattle.net_goals.specs.Kinds.{ValueGoal, LeafKind, Silent, Stable, kind_bound, for_value, KindPart, IsSilentEnd, IsAtRest, EndsRightWithin, HoldsFrom, HoldsAt, ComesToRest, part_of, parts_of, ComeToRest}
 use Rattle.net_goals.specs.Laws.{MixedLeavesAreRight}
+use Rattle.net_goals.proofs.Join.{output_stable}
 use Rattle.net_goals.proofs.Right.{join_right}
 
 -- ---- a silent leaf
@@ -153,6 +156,13 @@ module _ (net : NetModel) (tree : PredTree) (kinds : List KindPart) (come : Come
       same_part : (i : ℕ) (kind : KindPart) (part : LeafPart) → slice_get kinds i ≡ Some kind → slice_get (parts_of kinds) i ≡ Some part → part_of kind ≡ part
       same_part i kind part h k =
           same_Some (part_of kind) part (sym (slice_get-map part_of kinds i ∙ ap (option_map part_of) h) ∙ k)
+
+  -- where each leaf has come to rest, every agent outputs the predicate's value for ever
+  pub rest_stable : IsNet net → (counts : List ℕ) → IsInput (length net.variables) (number_of_helpers net) counts → (crowd : CrowdModel) → All (IsTuple net) crowd → ((j : ℕ) (leaf : LeafModel) (kind : KindPart) → slice_get net.leaves j ≡ Some leaf → slice_get kinds j ≡ Some kind → IsAtRest leaf kind.tree kind.kind counts (component j crowd)) → IsOutputStable net (predicate_value tree counts) crowd
+  unfolding RestAt
+  rest_stable is counts input crowd tuples at =
+      output_stable net is tree (parts_of kinds) RestAt has_goals counts input crowd
+      (record { input = input; tuples = tuples; each = λ j leaf h. at j })
 
   kinds_right : IsNet net → IsStablyRight net tree (parts_bound (parts_of kinds))
   kinds_right is = join_right RestAt net tree (parts_of kinds) is has_goals

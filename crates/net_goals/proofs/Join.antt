@@ -101,7 +101,7 @@ module _ (net : NetModel) (is : IsNet net) (tree : PredTree) (parts : List LeafP
     goals_remain before (next ∷ path) after at way = goals_remain next path after (goals_stay before next at way.0) way.1
 
     -- so the outputs have come to rest
-    output_stable : (crowd : CrowdModel) → IsAtGoals counts crowd → IsOutputStable net (predicate_value tree counts) crowd
+    pub output_stable : (crowd : CrowdModel) → IsAtGoals counts crowd → IsOutputStable net (predicate_value tree counts) crowd
     output_stable crowd at later r = outputs_right later (goals_remain crowd r.0 later at r.1)
 
     -- ---- the way there
