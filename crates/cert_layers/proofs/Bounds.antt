@@ -1,10 +1,9 @@
--- The bound of layers is small, and the bounds of leaves add up.
+-- The bound of layers is small, and the bounds of parts add up.
 use Rattle.std.proofs.Common.{◌≡◌, ℕ, ◌+◌, ◌*◌, ◌<◌, ◌≤◌, ◌^◌, List, [], ◌∷◌, length, get_or, drop, ap, sym, arith}
 use Rattle.std.specs.Prelude.{ℤ, All, sum_by}
 use Rattle.std.proofs.lemmas.List.Elements.{All-head, All-tail}
 use Rattle.std.proofs.lemmas.List.Sums.{sum_by-cons, sum_by-drop_more}
 use Rattle.cert_base.specs.declared.layer.Layer.{Layer}
-use Rattle.cert_base.specs.declared.proof.LeafProof.{LeafProof}
 use Rattle.cert_base.specs.ProofBound.{weights_spread, layers_bound}
 use Rattle.cert_layers.specs.LayerFaults.{IsWeight}
 use Rattle.cert_layers.proofs.Small.{spread-small}
@@ -21,11 +20,11 @@ layers_at_most (layer ∷ layers) within =
     let sum = sum_by-cons (λ (l : Layer). weights_spread l.weights) layer layers in
     omega (arith, first, rest, sum)
 
--- one more leaf
-pub bound_more : (parts items : List LeafProof) (i bound more whole : ℕ) (part : LeafProof) → items ≡ parts → i < length items → part ≡ get_or items i part → more ≡ layers_bound part.layers → bound + sum_by (λ part. layers_bound part.layers) (drop i parts) ≡ whole → bound + more + sum_by (λ part. layers_bound part.layers) (drop (i + 1) parts) ≡ whole
-bound_more parts items i bound more whole part same l is e so_far =
+-- one more part, of whatever kind
+pub bound_more : {P : Type 0} (bound_of : P → ℕ) (parts items : List P) (i bound more whole : ℕ) (part : P) → items ≡ parts → i < length items → part ≡ get_or items i part → more ≡ bound_of part → bound + sum_by bound_of (drop i parts) ≡ whole → bound + more + sum_by bound_of (drop (i + 1) parts) ≡ whole
+bound_more bound_of parts items i bound more whole part same l is e so_far =
     let l' : i < length parts = rw same at l in
     let is' : part ≡ get_or parts i part = rw same at is in
-    let sum = sum_by-drop_more (λ (p : LeafProof). layers_bound p.layers) parts i part l' in
-    let own : layers_bound (get_or parts i part).layers ≡ layers_bound part.layers = ap (λ (p : LeafProof). layers_bound p.layers) (sym is') in
+    let sum = sum_by-drop_more bound_of parts i part l' in
+    let own : bound_of (get_or parts i part) ≡ bound_of part = ap bound_of (sym is') in
     omega (arith, so_far, sum, own, e)

@@ -1,6 +1,5 @@
 pub mod LeafKinds
 mod Valid
-mod Bounds
 mod OneSetFault
 mod OneGoalFault
 pub mod OneStableFault

@@ -1,10 +1,7 @@
 -- The first part of a proof that is not valid.
 use Rattle.std.proofs.Common.{◌≡◌, ℕ, Bool, true, false, length, sym, subst}
-use Rattle.std.specs.Prelude.{Some, slice_get, ◌↔◌, IsTrue}
+use Rattle.std.specs.Prelude.{Some, slice_get, ◌↔◌, IsTrue, All}
 use Rattle.std.proofs.lemmas.Option.{slice_get_within}
-use Rattle.pop_io.specs.declared.failure.Failure.{Failure}
-use Rattle.pop_io.specs.declared.failure.Failure.TheVariants.{Fault, NoMemory}
-use Rattle.pop_io.specs.Failures.{Names}
 use Rattle.pres_ast.specs.PredModel.{PredModel}
 use Rattle.pop_net.specs.LeafModel.{LeafModel}
 use Rattle.pop_net.specs.NetModel.{NetModel}
@@ -22,7 +19,7 @@ pub right-valid : (net : NetModel) (proof : Proof) (n : ℕ) → AreRightBefore 
 right-valid net proof n right = λ i leaf part l h k. (right i leaf part l h k).valid
 
 -- the fault of the first leaf that is not right is the whole check's
-first_fault : (net : NetModel) (proof : Proof) (p : PredModel) (i : ℕ) (leaf : LeafModel) (part : LeafProof) (fault : Rejected) → AreRightBefore net proof.leaves i → slice_get net.leaves i ≡ Some leaf → slice_get proof.leaves i ≡ Some part → IsPartFault leaf part i fault → IsRejected net p proof fault
+pub first_fault : (net : NetModel) (proof : Proof) (p : PredModel) (i : ℕ) (leaf : LeafModel) (part : LeafProof) (fault : Rejected) → AreRightBefore net proof.leaves i → slice_get net.leaves i ≡ Some leaf → slice_get proof.leaves i ≡ Some part → IsPartFault leaf part i fault → IsRejected net p proof fault
 first_fault net proof p i leaf part (Layers j why) right h k is =
     subst (λ (n : ℕ). IsFirstRejected net proof n (λ l q. RejectsLayers l q why)) (sym is.0)
     (record { before = right-valid net proof i right; leaf = leaf; part = part; leaf_is = h; part_is = k; rejected = is.1 })
@@ -31,25 +28,23 @@ first_fault net proof p i leaf part (Tree j value node why) right h k is =
     (record { before = right-valid net proof i right; leaf = leaf; part = part; leaf_is = h; part_is = k; rejected = is.1 })
 first_fault net proof p i leaf part Predicate right h k is = absurd is
 
-pub first_named : (net : NetModel) (proof : Proof) (p : PredModel) (i : ℕ) (leaf : LeafModel) (part : LeafProof) (failure : Failure Rejected) → AreRightBefore net proof.leaves i → slice_get net.leaves i ≡ Some leaf → slice_get proof.leaves i ≡ Some part → Names (IsPartFault leaf part i) failure → Names (IsRejected net p proof) failure
-first_named net proof p i leaf part (Fault rejected) right h k is = first_fault net proof p i leaf part rejected right h k is
-first_named net proof p i leaf part NoMemory right h k is = tt
-
 pub all_valid : (net : NetModel) (proof : Proof) (p : PredModel) → ValidProof net p proof → AreValidBefore net proof (length net.leaves)
 all_valid net proof p v i leaf part l h k = v.leaves i leaf part h k
 
-pub net_pred : (net : NetModel) (proof : Proof) (p : PredModel) → p.variables ≡ length net.variables → IsProofWithin (length net.variables) (length net.leaves) proof → CombinesTo net proof p → IsNetPred net proof p
-net_pred net proof p e within combines =
-    record {
-      combination = combines;
-      variables = e;
-      parts = λ k d l. (within.parts k d l).pred;
-    }
+-- each predicate of the proof is over the net's variables
+abbrev pub AreOver : NetModel → Proof → Type 0
+AreOver net proof = All (λ (part : LeafProof). part.pred.variables ≡ length net.variables) proof.leaves
 
-pub not_combined : (net : NetModel) (proof : Proof) (p : PredModel) (b : Bool) → (IsTrue b ↔ IsNetPred net proof p) → b ≡ false → p.variables ≡ length net.variables → IsProofWithin (length net.variables) (length net.leaves) proof → CombinesTo net proof p → ⊥
-not_combined net proof p true tells e same within combines = cc
-not_combined net proof p false tells e same within combines =
-    let clash : false ≡ true = tells.1 (net_pred net proof p same within combines) in cc
+pub within_over : (net : NetModel) (proof : Proof) → IsProofWithin (length net.variables) (length net.leaves) proof → AreOver net proof
+within_over net proof within k d l = (within.parts k d l).pred
+
+net_pred : (net : NetModel) (proof : Proof) (p : PredModel) → p.variables ≡ length net.variables → AreOver net proof → CombinesTo net proof p → IsNetPred net proof p
+net_pred net proof p e over combines = record { combination = combines; variables = e; parts = over }
+
+pub not_combined : (net : NetModel) (proof : Proof) (p : PredModel) (b : Bool) → (IsTrue b ↔ IsNetPred net proof p) → b ≡ false → p.variables ≡ length net.variables → AreOver net proof → CombinesTo net proof p → ⊥
+not_combined net proof p true tells e same over combines = cc
+not_combined net proof p false tells e same over combines =
+    let clash : false ≡ true = tells.1 (net_pred net proof p same over combines) in cc
 
 pub combined_by : (net : NetModel) (proof : Proof) (p : PredModel) (b : Bool) → (IsTrue b ↔ IsNetPred net proof p) → b ≡ true → CombinesTo net proof p
 combined_by net proof p b tells e = (tells.0 e).combination

@@ -1,5 +1,6 @@
 pub mod Bounds
 pub mod Firsts
+pub mod PartWalk
 pub mod OneFault
 pub mod NetEnds
 pub mod Outputs

@@ -1,17 +1,24 @@
 use Rattle.std.proofs.Common.{◌<◌, length, ap, arith}
 use Rattle.std.proofs.lemmas.Result.{err_from_is_err_and}
-use Rattle.goal_checker.proofs.Bounds.{bound_more}
-use Rattle.net_laws.proofs.Walk.{one_more, part_at}
-use Rattle.goal_checker.specs.ValidStable.{ValidPart}
-use Rattle.goal_checker.proofs.Valid.{first_named}
+use Rattle.net_laws.proofs.Walk.{part_at}
+use Rattle.pop_checker.proofs.PartWalk.{part_more, all_hold, named_by}
+use Rattle.goal_checker.specs.ValidStable.{ValidPart, part_bound}
+use Rattle.goal_checker.specs.Rejections.{IsPartRejected, IsStableRejected}
+use Rattle.goal_checker.proofs.Valid.{first_rejected}
 use Rattle.goal_checker.proofs.whole.check_parts.Goals as goal
 
 pub returns-in_err-more-clause-fault : goal.returns-in_err-more-clause-fault
 returns-in_err-more-clause-fault c =
     let p = err_from_is_err_and c.from_residual.result c.from_residual.ensures.1 in
-    let here = part_at c.args.proof.now.leaves c.as_slice-parts.result.now c.loop-number.number c.index-parts-number.result c.as_slice-parts.ensures c.loop-number-test.true c.index-parts-number.is in
+    let net = c.args.net.now in
+    let number = c.loop-number.number in
+    let leaf = c.leaf.result.now in
+    let part = c.index-parts-number.result in
+    let here = part_at c.args.proof.now.leaves c.as_slice-parts.result.now number part c.as_slice-parts.ensures c.loop-number-test.true c.index-parts-number.is in
     λ q. rw (p.1, p.2)
-    (first_named c.args.net.now c.args.proof.now q c.loop-number.number c.leaf.result.now c.index-parts-number.result c.in_err-more.field-0.0 c.loop-number.invariant.valid c.leaf.ensures here c.in_err-more.ensures.fault)
+    (named_by (IsPartRejected leaf part number) (IsStableRejected net q c.args.proof.now) c.in_err-more.field-0.0
+    (λ fault is. first_rejected net c.args.proof.now q number leaf part fault c.loop-number.invariant.holds c.leaf.ensures here is)
+    c.in_err-more.ensures.fault)
 
 pub returns-in_err-more-clause-accepts : goal.returns-in_err-more-clause-accepts
 returns-in_err-more-clause-accepts c =
@@ -22,14 +29,8 @@ returns-in_err-more-clause-accepts c =
 
 pub loop-number-preserved : goal.loop-number-preserved
 loop-number-preserved c =
-    let here = part_at c.args.proof.now.leaves c.as_slice-parts.result.now c.loop-number.number c.index-parts-number.result c.as_slice-parts.ensures c.loop-number-test.true c.index-parts-number.is in
-    record {
-      valid = one_more ValidPart c.args.net.now c.args.proof.now.leaves c.loop-number.number c.leaf.result.now c.index-parts-number.result c.loop-number.invariant.valid c.leaf.ensures here c.in_ok-more.ensures.valid;
-      so_far = bound_more c.args.proof.now.leaves c.as_slice-parts.result.now c.loop-number.number c.loop-number.bound c.in_ok-more.more _ c.index-parts-number.result c.as_slice-parts.ensures c.loop-number-test.true c.index-parts-number.is c.in_ok-more.ensures.bound.0 c.loop-number.invariant.so_far;
-      small = omega (arith, c.in_ok-more.ensures.bound.1, c.loop-number.invariant.small);
-    }
+    part_more ValidPart part_bound c.args.net.now c.args.proof.now.leaves c.as_slice-parts.result.now c.loop-number.number c.loop-number.bound c.in_ok-more.more c.leaf.result.now c.index-parts-number.result c.as_slice-parts.ensures c.loop-number-test.true c.index-parts-number.is c.leaf.ensures c.in_ok-more.ensures.valid c.in_ok-more.ensures.bound c.loop-number.invariant
 
 pub returns-clause-valid : goal.returns-clause-valid
-returns-clause-valid c = λ i leaf part l h k.
-    let within : i < c.loop-number.number = omega (arith, l, c.loop-number-test.false, ap length c.as_slice-parts.ensures, c.requires.one_each) in
-    c.loop-number.invariant.valid i leaf part within h k
+returns-clause-valid c =
+    all_hold ValidPart part_bound c.args.net.now c.args.proof.now.leaves c.as_slice-parts.result.now c.loop-number.number c.loop-number.bound c.as_slice-parts.ensures (omega (arith, c.loop-number-test.false)) c.requires.one_each c.loop-number.invariant

@@ -1,7 +1,8 @@
 use Rattle.std.proofs.Common.{◌≡◌, true, false, rules}
 use Rattle.std.proofs.lemmas.Result.{err_from_is_err_and}
+use Rattle.pop_checker.proofs.Firsts.{not_combined, combined_by}
 use Rattle.goal_checker.specs.ValidStable.{predicates_alone}
-use Rattle.goal_checker.proofs.Valid.{not_combined, combined_by, valid_from}
+use Rattle.goal_checker.proofs.Valid.{alone_over, valid_from}
 use Rattle.goal_checker.proofs.whole.check_stable.Goals as goal
 
 pub returns-in_err-bound : goal.returns-in_err-bound
@@ -17,8 +18,7 @@ returns-in_err-bound c =
 pub returns-then-not-same : goal.returns-then-not-same
 returns-then-not-same c =
     let no : c.net_pred_is-same.result ≡ false = search rules in
-    let same : c.in_ok-alone.alone ≡ predicates_alone c.args.proof.now = c.in_ok-alone.ensures in
-    let other = not_combined c.args.net.now c.args.proof.now c.args.pred.now c.net_pred_is-same.result (rw c.in_ok-alone.ensures at c.net_pred_is-same.ensures) no c.requires.variables c.requires.within in
+    let other = not_combined c.args.net.now (predicates_alone c.args.proof.now) c.args.pred.now c.net_pred_is-same.result (rw c.in_ok-alone.ensures at c.net_pred_is-same.ensures) no c.requires.variables (alone_over c.args.net.now c.args.proof.now c.requires.within) in
     record {
       valid = tt;
       bound = tt;
@@ -29,7 +29,7 @@ returns-then-not-same c =
 pub returns : goal.returns
 returns c =
     let yes_it_is : c.net_pred_is-same.result ≡ true = search rules in
-    let combines = combined_by c.args.net.now c.args.proof.now c.args.pred.now c.net_pred_is-same.result (rw c.in_ok-alone.ensures at c.net_pred_is-same.ensures) yes_it_is in
+    let combines = combined_by c.args.net.now (predicates_alone c.args.proof.now) c.args.pred.now c.net_pred_is-same.result (rw c.in_ok-alone.ensures at c.net_pred_is-same.ensures) yes_it_is in
     record {
       valid = valid_from c.args.net.now c.args.proof.now c.args.pred.now c.requires.within.one_each c.in_ok-bound.ensures.valid combines;
       bound = c.in_ok-bound.ensures.bound;

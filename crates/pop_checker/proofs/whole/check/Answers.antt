@@ -1,6 +1,6 @@
 use Rattle.std.proofs.Common.{◌≡◌, true, false, rules}
 use Rattle.std.proofs.lemmas.Result.{err_from_is_err_and}
-use Rattle.pop_checker.proofs.Firsts.{right-valid, all_valid, not_combined, combined_by, valid_from}
+use Rattle.pop_checker.proofs.Firsts.{right-valid, all_valid, within_over, not_combined, combined_by, valid_from}
 use Rattle.pop_checker.proofs.Verdicts.{checked_by, right_by}
 use Rattle.pop_checker.proofs.whole.check.Goals as goal
 
@@ -18,7 +18,7 @@ returns-in_err-bound c =
 pub returns-then-not-same : goal.returns-then-not-same
 returns-then-not-same c =
     let no : c.net_pred_is-same.result ≡ false = search rules in
-    let other = not_combined c.args.net c.args.proof.now c.args.pred c.net_pred_is-same.result c.net_pred_is-same.ensures no c.requires.variables c.requires.within in
+    let other = not_combined c.args.net c.args.proof.now c.args.pred c.net_pred_is-same.result c.net_pred_is-same.ensures no c.requires.variables (within_over c.args.net c.args.proof.now c.requires.within) in
     record {
       valid = tt;
       right = tt;

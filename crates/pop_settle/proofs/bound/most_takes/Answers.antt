@@ -1,4 +1,5 @@
 use Rattle.std.proofs.Common.{◌≡◌, ◌≤◌, ◌^◌, ◌∙◌, length, ap, arith}
+use Rattle.cert_base.specs.declared.proof.LeafProof.{LeafProof}
 use Rattle.cert_base.specs.ProofBound.{layers_bound}
 use Rattle.cert_layers.proofs.Bounds.{bound_more}
 use Rattle.pop_settle.proofs.Bounds.{bound_fits}
@@ -20,7 +21,7 @@ overflow_add-bound c =
 pub loop-part-preserved : goal.loop-part-preserved
 loop-part-preserved c =
     record {
-      so_far = bound_more c.args.proof.now.leaves c.as_slice-part-items.result.now c.loop-part.part-index c.loop-part.bound c.bound_of-bound.result _ c.part-item.result c.as_slice-part-items.ensures c.loop-part-test.true c.part-item.is (value c) c.loop-part.invariant.so_far;
+      so_far = bound_more (λ (part : LeafProof). layers_bound part.layers) c.args.proof.now.leaves c.as_slice-part-items.result.now c.loop-part.part-index c.loop-part.bound c.bound_of-bound.result _ c.part-item.result c.as_slice-part-items.ensures c.loop-part-test.true c.part-item.is (value c) c.loop-part.invariant.so_far;
       small = omega (arith, small c, c.loop-part.invariant.small);
     }
 
