@@ -2,14 +2,16 @@
 """Runs the merge gate from nothing in a clone, and prints the processor minutes of each crate's proofs, tests and
 edits, and those of the seed of its edits: the check of the crate as it stands with which they begin.
 
-Run from the top of the repository: bench/gate.py [FOLDER [COMMIT]], or bench/gate.py --from LOG
+Run from the top of the repository: bench/gate.py [FOLDER [COMMIT]], or bench/gate.py --from LOG..
 
 The clone is made in FOLDER, or in a new temporary folder. `rt ci --anew` proves and tries all, whatever earlier runs
-kept. With a COMMIT it is that one's gate, so that an earlier gate and this one can be measured on one machine; nothing
-is written then. Without one what is printed of a gate that passed goes into bench/results/gate.txt too, and the table
-of docs/develop/proving.md is made of it. --from does both with what an earlier run printed. A process counts for the
-crate that its command line names. Times are read twice a second, so the last half second of each process is missing;
-what a process took that names no crate stands in the last line.
+kept. With a COMMIT it is that one's gate, so that an earlier gate and this one can be measured on one machine;
+nothing is written then. Without one what is printed of a gate that passed goes into bench/results/gate.txt too, and
+the table of docs/develop/proving.md is made of it. --from does both with what earlier runs printed; a later run's
+rows take the place of an earlier one's. A second table compares it with bench/results/gate_before.txt, the last gate
+before the crates were cut anew. A process counts for the crate that its command line names. Times are read twice a
+second, so the last half second of each process is missing; what a process took that names no crate stands in the last
+line.
 
 Virtual machines differ in speed, from one to the next and within minutes. So one crate of one commit is checked beside
 the gate, at its start and every ten minutes, and the seconds of these checks are printed too: minutes of two gates
@@ -33,9 +35,11 @@ from common import first_line, heading, write_between
 
 TOP = Path(__file__).resolve().parent.parent
 RESULT = TOP / "bench/results/gate.txt"
+BEFORE = TOP / "bench/results/gate_before.txt"
 TICKS = os.sysconf("SC_CLK_TCK")
 ACROSS = 3
 KINDS = ["proofs", "tests", "seeds", "edits", "other"]
+LEAST = 0.05  # processor minutes of proofs, below which a gate took a crate's proof as it was kept
 
 # The crate stands on no other one.
 GAUGE_COMMIT, GAUGE_CRATE = "e11a5bb", "pop_lines"
@@ -201,11 +205,76 @@ def table(lines: list[str]) -> list[str]:
     return [*out, "", *textwrap.wrap(sentence, 120)]
 
 
+def uses(commit: str) -> dict[str, list[str]]:
+    """Which crates each crate of a commit names in crates.txt."""
+    shown = ["git", "show", f"{commit}:crates.txt"]
+    text = subprocess.run(shown, cwd=TOP, stdout=subprocess.PIPE, check=True, text=True)
+    lines = [line for line in text.stdout.splitlines() if ":" in line and not line.startswith("#")]
+    return {name.strip(): below.split() for name, below in (line.split(":", 1) for line in lines)}
+
+
+def longest_chain(rows: dict[str, Minutes], below: dict[str, list[str]]) -> tuple[float, list[str]]:
+    """The minutes of proofs of the crates that wait for one another longest, and these crates from the bottom up."""
+    known: dict[str, tuple[float, list[str]]] = {}
+
+    def up_to(name: str) -> tuple[float, list[str]]:
+        if name not in known:
+            chains = [up_to(other) for other in below.get(name, []) if other in rows]
+            longest: tuple[float, list[str]] = max(chains, default=(0.0, []))
+            known[name] = (longest[0] + rows[name]["proofs"], [*longest[1], name])
+        return known[name]
+
+    return up_to("pop_main")
+
+
+def compared(lines: list[str], before: list[str]) -> list[str]:
+    """A table with the sums of two gates, and a sentence with the longest chain of the first."""
+    columns: list[list[str]] = []
+    chains: list[tuple[float, list[str]]] = []
+    for gate in (before, lines):
+        rows, told = read_log(gate)
+        commit = told["commit"]
+        chains.append(longest_chain(rows, uses(commit)))
+        sums = {kind: sum(row[kind] for row in rows.values()) for kind in [*KINDS, "tried"]}
+        gauge = [float(word) for word in told.get(GAUGE_CRATE, "").split() if word.isdigit()]
+        columns.append(
+            [
+                f"{sum(name != 'none' for name in rows)}",
+                *(f"{sums[kind]:.0f}" for kind in ("proofs", "tests", "seeds", "edits", "tried")),
+                f"{sum(sums[kind] for kind in KINDS):.0f}",
+                f"{chains[-1][0]:.1f}",
+                f"{sum(gauge) / len(gauge):.0f} s" if gauge else "",
+            ]
+        )
+    names = ["Crates", "Proofs", "Tests", "Seeds", "Edits", "Number of edits", "All", "Longest chain"]
+    names.append(f"`{GAUGE_CRATE}` of {GAUGE_COMMIT}")
+    titles = [read_log(gate)[1]["commit"] for gate in (before, lines)]
+    out = [f"| Processor minutes | {titles[0]} | {titles[1]} |", "|---|---|---|"]
+    out += [f"| {name} | {one} | {other} |" for name, one, other in zip(names, *columns)]
+    sentence = "The longest chain of the second gate is " + ", ".join(f"`{name}`" for name in chains[1][1]) + "."
+    return [*out, "", *textwrap.wrap(sentence, 120)]
+
+
+def merged(logs: list[list[str]]) -> list[str]:
+    """The first log with the rows of later ones in the place of its own, where a later gate proved the crate anew."""
+    lines = list(logs[0])
+    for later in logs[1:]:
+        proved, _ = read_log(later)
+        rows = {line.split()[0]: line for line in later if line.split() and line.split()[0] in proved}
+        rows = {name: line for name, line in rows.items() if name != "none" and proved[name]["proofs"] > LEAST}
+        lines = [rows.pop(line.split()[0], line) if line.split() else line for line in lines]
+        place = next(at for at, line in enumerate(lines) if line.startswith("none "))
+        lines[place:place] = list(rows.values())
+        lines[0] = next(line for line in later if line.startswith("commit "))
+    return lines
+
+
 def keep(lines: list[str]) -> None:
-    """Keeps a log as the raw figures, and writes the table."""
+    """Keeps a log as the raw figures, and writes the tables."""
     RESULT.parent.mkdir(exist_ok=True)
     RESULT.write_text("\n".join(lines) + "\n")
-    write_between("develop/proving.md", "gate", table(lines))
+    before = BEFORE.read_text().splitlines()
+    write_between("develop/proving.md", "gate", [*table(lines), "", *compared(lines, before)])
 
 
 def measure(words: list[str]) -> tuple[list[str], int]:
@@ -232,7 +301,7 @@ def measure(words: list[str]) -> tuple[list[str], int]:
 
 def main() -> int:
     if sys.argv[1:2] == ["--from"]:
-        keep(Path(sys.argv[2]).read_text().splitlines())
+        keep(merged([Path(name).read_text().splitlines() for name in sys.argv[2:]]))
         return 0
     lines, status = measure(sys.argv[1:])
     print("\n".join(lines))
