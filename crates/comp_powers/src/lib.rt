@@ -7,6 +7,7 @@
 
 mod law;
 mod multipliers;
+mod roled;
 mod trees;
 mod values;
 mod weights;

@@ -7,13 +7,13 @@ ghost use Rattle.cert_base.specs.FactsAndCases.{puts_into, is_in, places_from, n
 ghost use Rattle.pop_io.specs.declared.names.TheConstants.{VARIABLE_LIMIT};
 ghost use Rattle.pop_net.specs.declared.limits.TheConstants.{STATE_LIMIT, MOVE_LIMIT};
 ghost use Rattle.comp_trees.specs.LeaderTree.{weighed_node, company_of};
-ghost use Rattle.comp_powers.specs.PowersProof.{AreStates, hubs, alone_zero, no_leak_mix, helped_mix, no_hub_mix};
+ghost use Rattle.comp_powers.specs.PowersProof.{hubs, alone_zero, no_leak_mix, helped_mix, no_hub_mix};
 ghost use Rattle.comp_powers.specs.PowersProof.{high_mix, few_mix, low_mix};
 
+use crate::roled::RoledLeaf;
 use crate::values::{Amount, amounts, same, size, sizes, wrong};
 use crate::weights::push_if;
 use cert_base::{Node, can_meet};
-use comp_powers_leaf::Role;
 use comp_trees::{company, mixed, picked};
 use pop_io::NoMemory;
 use pop_net::{Leaf, Move};
@@ -190,93 +190,69 @@ fn nothing_own(alloc: Global, leaf: &Leaf, out: &[i64]) -> Result<Vec<i64>, NoMe
 }
 
 /// With a hub of 0, where the sum is below the bound.
-fn high_true(
-    alloc: Global,
-    leaf: &Leaf,
-    coefs: &[i64],
-    k: u32,
-    roles: &[Role],
-) -> Result<Node, NoMemory>
-    requires { AreStates leaf.now coefs.now k roles.now }
-    ensures { IfOk result (λ node. node ≡ weighed_node (high_mix coefs.now k leaf.now true)) }
+fn high_true(alloc: Global, powers: &RoledLeaf<'_>) -> Result<Node, NoMemory>
+    ensures { IfOk result (λ node.
+        node ≡ weighed_node (high_mix powers.now.coefs.now powers.now.k powers.now.leaf.now true)) }
 {
-    let worths = amounts(alloc, leaf, coefs, k, roles, Amount::Worth)?;
-    let own = high_own(alloc, leaf, worths.as_slice())?;
+    let worths = amounts(alloc, powers, Amount::Worth)?;
+    let own = high_own(alloc, powers.leaf, worths.as_slice())?;
     mixed(alloc, worths.as_slice(), 0, 1, own.as_slice())
 }
 
 /// With a hub of 0, where it isn't.
-fn high_false(
-    alloc: Global,
-    leaf: &Leaf,
-    coefs: &[i64],
-    k: u32,
-    roles: &[Role],
-) -> Result<Node, NoMemory>
-    requires { AreStates leaf.now coefs.now k roles.now }
-    ensures { IfOk result (λ node. node ≡ weighed_node (high_mix coefs.now k leaf.now false)) }
+fn high_false(alloc: Global, powers: &RoledLeaf<'_>) -> Result<Node, NoMemory>
+    ensures { IfOk result (λ node.
+        node ≡ weighed_node (high_mix powers.now.coefs.now powers.now.k powers.now.leaf.now false)) }
 {
-    let none = same(alloc, leaf, 0)?;
-    let wrong = wrong(alloc, leaf, false)?;
-    let own = high_own(alloc, leaf, wrong.as_slice())?;
+    let none = same(alloc, powers.leaf, 0)?;
+    let wrong = wrong(alloc, powers.leaf, false)?;
+    let own = high_own(alloc, powers.leaf, wrong.as_slice())?;
     mixed(alloc, none.as_slice(), 1, 0, own.as_slice())
 }
 
 /// With a hub of 0.
-pub(crate) fn high(
-    alloc: Global,
-    leaf: &Leaf,
-    coefs: &[i64],
-    k: u32,
-    roles: &[Role],
-    b: bool,
-) -> Result<Node, NoMemory>
-    requires { AreStates leaf.now coefs.now k roles.now }
-    ensures { IfOk result (λ node. node ≡ weighed_node (high_mix coefs.now k leaf.now b)) }
+pub(crate) fn high(alloc: Global, powers: &RoledLeaf<'_>, b: bool) -> Result<Node, NoMemory>
+    ensures { IfOk result (λ node.
+        node ≡ weighed_node (high_mix powers.now.coefs.now powers.now.k powers.now.leaf.now b)) }
 {
     if b {
-        high_true(alloc, leaf, coefs, k, roles)
+        high_true(alloc, powers)
     } else {
-        high_false(alloc, leaf, coefs, k, roles)
+        high_false(alloc, powers)
     }
 }
 
 /// Nobody is worth nothing: there are too few agents.
-pub(crate) fn few(
-    alloc: Global,
-    leaf: &Leaf,
-    coefs: &[i64],
-    k: u32,
-    roles: &[Role],
-) -> Result<Node, NoMemory>
-    requires { AreStates leaf.now coefs.now k roles.now }
-    ensures { IfOk result (λ node. node ≡ weighed_node (few_mix coefs.now k leaf.now)) }
+pub(crate) fn few(alloc: Global, powers: &RoledLeaf<'_>) -> Result<Node, NoMemory>
+    ensures { IfOk result (λ node.
+        node ≡ weighed_node (few_mix powers.now.coefs.now powers.now.k powers.now.leaf.now)) }
 {
-    let ready = amounts(alloc, leaf, coefs, k, roles, Amount::Ready)?;
-    let out = same(alloc, leaf, -1)?;
-    let ones = vec![in alloc; 1i64; k as usize]?;
-    let own = low_own(alloc, leaf, 0, out.as_slice(), ones.as_slice(), &[-1])?;
+    let ready = amounts(alloc, powers, Amount::Ready)?;
+    let out = same(alloc, powers.leaf, -1)?;
+    let ones = vec![in alloc; 1i64; powers.k as usize]?;
+    let own = low_own(
+        alloc,
+        powers.leaf,
+        0,
+        out.as_slice(),
+        ones.as_slice(),
+        &[-1],
+    )?;
     mixed(alloc, ready.as_slice(), 0, 0, own.as_slice())
 }
 
 /// With a hub of -2^k, where the sum is below the bound.
-fn low_true(
-    alloc: Global,
-    leaf: &Leaf,
-    coefs: &[i64],
-    k: u32,
-    roles: &[Role],
-) -> Result<Node, NoMemory>
-    requires { AreStates leaf.now coefs.now k roles.now }
-    ensures { IfOk result (λ node. node ≡ weighed_node (low_mix coefs.now k leaf.now true)) }
+fn low_true(alloc: Global, powers: &RoledLeaf<'_>) -> Result<Node, NoMemory>
+    ensures { IfOk result (λ node.
+        node ≡ weighed_node (low_mix powers.now.coefs.now powers.now.k powers.now.leaf.now true)) }
 {
-    let none = same(alloc, leaf, 0)?;
-    let wrong = wrong(alloc, leaf, true)?;
-    let zeros = vec![in alloc; 0i64; k as usize]?;
-    let last = nothing_own(alloc, leaf, wrong.as_slice())?;
+    let none = same(alloc, powers.leaf, 0)?;
+    let wrong = wrong(alloc, powers.leaf, true)?;
+    let zeros = vec![in alloc; 0i64; powers.k as usize]?;
+    let last = nothing_own(alloc, powers.leaf, wrong.as_slice())?;
     let own = low_own(
         alloc,
-        leaf,
+        powers.leaf,
         0,
         wrong.as_slice(),
         zeros.as_slice(),
@@ -286,24 +262,18 @@ fn low_true(
 }
 
 /// With a hub of -2^k, where it isn't.
-fn low_false(
-    alloc: Global,
-    leaf: &Leaf,
-    coefs: &[i64],
-    k: u32,
-    roles: &[Role],
-) -> Result<Node, NoMemory>
-    requires { AreStates leaf.now coefs.now k roles.now }
-    ensures { IfOk result (λ node. node ≡ weighed_node (low_mix coefs.now k leaf.now false)) }
+fn low_false(alloc: Global, powers: &RoledLeaf<'_>) -> Result<Node, NoMemory>
+    ensures { IfOk result (λ node.
+        node ≡ weighed_node (low_mix powers.now.coefs.now powers.now.k powers.now.leaf.now false)) }
 {
-    let owed = amounts(alloc, leaf, coefs, k, roles, Amount::Owed)?;
-    let lost = amounts(alloc, leaf, coefs, k, roles, Amount::Lost)?;
-    let sizes = sizes(alloc, k)?;
-    let last = nothing_own(alloc, leaf, lost.as_slice())?;
-    let range = size(k);
+    let owed = amounts(alloc, powers, Amount::Owed)?;
+    let lost = amounts(alloc, powers, Amount::Lost)?;
+    let sizes = sizes(alloc, powers.k)?;
+    let last = nothing_own(alloc, powers.leaf, lost.as_slice())?;
+    let range = size(powers.k);
     let own = low_own(
         alloc,
-        leaf,
+        powers.leaf,
         range,
         lost.as_slice(),
         sizes.as_slice(),
@@ -313,20 +283,13 @@ fn low_false(
 }
 
 /// With a hub of -2^k, and somebody who is worth nothing.
-pub(crate) fn low(
-    alloc: Global,
-    leaf: &Leaf,
-    coefs: &[i64],
-    k: u32,
-    roles: &[Role],
-    b: bool,
-) -> Result<Node, NoMemory>
-    requires { AreStates leaf.now coefs.now k roles.now }
-    ensures { IfOk result (λ node. node ≡ weighed_node (low_mix coefs.now k leaf.now b)) }
+pub(crate) fn low(alloc: Global, powers: &RoledLeaf<'_>, b: bool) -> Result<Node, NoMemory>
+    ensures { IfOk result (λ node.
+        node ≡ weighed_node (low_mix powers.now.coefs.now powers.now.k powers.now.leaf.now b)) }
 {
     if b {
-        low_true(alloc, leaf, coefs, k, roles)
+        low_true(alloc, powers)
     } else {
-        low_false(alloc, leaf, coefs, k, roles)
+        low_false(alloc, powers)
     }
 }

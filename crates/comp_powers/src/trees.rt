@@ -7,12 +7,12 @@ ghost use Rattle.cert_base.specs.declared.node.Node.TheVariants.{Present as pres
 ghost use Rattle.pop_net.specs.declared.limits.TheConstants.{STATE_LIMIT};
 ghost use Rattle.comp_trees.specs.LeaderTree.{weighed_node};
 ghost use Rattle.comp_powers_leaf.specs.declared.limits.TheConstants.{RANGE_LIMIT};
-ghost use Rattle.comp_powers.specs.PowersProof.{AreStates, hubs, twin_places, powers_tree, no_leak_mix, helped_mix};
+ghost use Rattle.comp_powers.specs.PowersProof.{hubs, twin_places, powers_tree, no_leak_mix, helped_mix};
 ghost use Rattle.comp_powers.specs.PowersProof.{no_hub_mix};
 
 use crate::multipliers::{few, helped, high, low, no_hub, no_leak};
+use crate::roled::RoledLeaf;
 use cert_base::Node;
-use comp_powers_leaf::Role;
 use pop_io::{List, NoMemory};
 use pop_net::Leaf;
 use std::alloc::Global;
@@ -63,23 +63,15 @@ fn push_twins(nodes: &mut Vec<Node>, places: &[u16]) -> Result<(), NoMemory>
 }
 
 /// The tree for one value of the predicate.
-pub(crate) fn tree(
-    alloc: Global,
-    leaf: &Leaf,
-    coefs: &[i64],
-    k: u32,
-    roles: &[Role],
-    b: bool,
-) -> Result<List<Node>, NoMemory>
-    requires { AreStates leaf.now coefs.now k roles.now }
-    ensures { IfOk result (λ nodes. nodes ≡ powers_tree coefs.now k leaf.now b) }
+pub(crate) fn tree(alloc: Global, powers: &RoledLeaf<'_>, b: bool) -> Result<List<Node>, NoMemory>
+    ensures { IfOk result (λ nodes. nodes ≡ powers_tree powers.now.coefs.now powers.now.k powers.now.leaf.now b) }
 {
-    let mut nodes = top(alloc, leaf)?;
-    nodes.push(high(alloc, leaf, coefs, k, roles, b)?)?;
-    let places = twins(alloc, coefs, k)?;
+    let mut nodes = top(alloc, powers.leaf)?;
+    nodes.push(high(alloc, powers, b)?)?;
+    let places = twins(alloc, powers.coefs, powers.k)?;
     push_twins(&mut nodes, places.as_slice())?;
     nodes.push(Node::Present(3))?;
-    nodes.push(few(alloc, leaf, coefs, k, roles)?)?;
-    nodes.push(low(alloc, leaf, coefs, k, roles, b)?)?;
+    nodes.push(few(alloc, powers)?)?;
+    nodes.push(low(alloc, powers, b)?)?;
     Ok(List::from_vec(nodes))
 }

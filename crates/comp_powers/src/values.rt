@@ -6,8 +6,8 @@ ghost use Rattle.cert_base.specs.FactsAndCases.{states_of};
 ghost use Rattle.comp_powers_leaf.specs.declared.limits.TheConstants.{RANGE_LIMIT};
 ghost use Rattle.comp_powers_leaf.specs.PowersLeaf.{worth, role_at, IsRole, HasRange, roles as all_roles};
 ghost use Rattle.comp_powers.specs.PowersProof.{by_role, credit, amount_of, minus_ready, minus_wrong};
-ghost use Rattle.comp_powers.specs.PowersProof.{AreStates};
 
+use crate::roled::RoledLeaf;
 use comp_powers_leaf::{Role, owed_by, two_to};
 use pop_io::NoMemory;
 use pop_net::Leaf;
@@ -94,13 +94,12 @@ fn amount_of(coefs: &[i64], k: u32, amount: Amount, role: Role) -> i64
     }
 }
 
-fn amount_at(coefs: &[i64], k: u32, roles: &[Role], amount: Amount, q: u16) -> i64
-    requires range { HasRange coefs.now k }
-    requires roles { roles.now ≡ all_roles coefs.now k }
-    requires state { q < length roles.now }
-    ensures { result ≡ by_role coefs.now k (amount_of coefs.now k amount) q }
+fn amount_at(powers: &RoledLeaf<'_>, amount: Amount, q: u16) -> i64
+    requires { q < length powers.now.leaf.now.states }
+    ensures { result ≡ by_role powers.now.coefs.now powers.now.k (amount_of powers.now.coefs.now powers.now.k amount) q }
 {
-    amount_of(coefs, k, amount, role_in(coefs, k, roles, q))
+    let role = role_in(powers.coefs, powers.k, powers.roles, q);
+    amount_of(powers.coefs, powers.k, amount, role)
 }
 
 fn wrong_at(leaf: &Leaf, b: bool, q: u16) -> i64
@@ -121,18 +120,15 @@ pub(crate) fn same(alloc: Global, leaf: &Leaf, value: i64) -> Result<Vec<i64>, N
 /// What the states are counted for.
 pub(crate) fn amounts(
     alloc: Global,
-    leaf: &Leaf,
-    coefs: &[i64],
-    k: u32,
-    roles: &[Role],
+    powers: &RoledLeaf<'_>,
     amount: Amount,
 ) -> Result<Vec<i64>, NoMemory>
-    requires { AreStates leaf.now coefs.now k roles.now }
     ensures { IfOk result (λ flows.
-        flows.items ≡ map (by_role coefs.now k (amount_of coefs.now k amount)) (states_of leaf.now)) }
+        flows.items ≡ map (by_role powers.now.coefs.now powers.now.k (amount_of powers.now.coefs.now powers.now.k amount))
+        (states_of powers.now.leaf.now)) }
 {
-    let flows = (0..leaf.state_count())
-        .map(|q| amount_at(coefs, k, roles, amount, q))
+    let flows = (0..powers.leaf.state_count())
+        .map(|q| amount_at(powers, amount, q))
         .collect(alloc)?;
     Ok(flows)
 }

@@ -3,12 +3,13 @@
 ghost use Rattle.std.specs.Prelude.{◌≡◌, ◌≤◌, ◌<◌, ◌++◌, ◌∷◌, [], if◌then◌else◌, length, map, pos, IfOk, OnOk};
 ghost use Rattle.comp_trees.specs.SortedLayers.{sorted_layer};
 ghost use Rattle.comp_powers_leaf.specs.declared.limits.TheConstants.{RANGE_LIMIT};
-ghost use Rattle.comp_powers.specs.PowersProof.{AreStates, powers_layers_of};
+ghost use Rattle.comp_powers.specs.PowersProof.{powers_layers_of};
 ghost use Rattle.comp_powers_leaf.specs.PowersLeaf.{powers_moves};
 ghost use Rattle.comp_powers_leaf.specs.PowersLayers.{low_kind, nothing_kind, kind_by, kind_at, sum_weight};
 ghost use Rattle.comp_powers_leaf.specs.PowersLayers.{answer_weight};
 ghost use Rattle.comp_powers_leaf.specs.PowersLayers.{one_if as one_where};
 
+use crate::roled::RoledLeaf;
 use cert_base::Layer;
 use comp_powers_leaf::Role;
 use pop_io::{List, NoMemory};
@@ -141,23 +142,16 @@ fn layer(
 }
 
 /// First the sum, then the turns to true, then those to false.
-pub(crate) fn powers_layers(
-    alloc: Global,
-    leaf: &Leaf,
-    coefs: &[i64],
-    k: u32,
-    roles: &[Role],
-) -> Result<List<Layer>, NoMemory>
-    requires states { AreStates leaf.now coefs.now k roles.now }
-    requires moves { leaf.now.moves ≡ powers_moves coefs.now k }
-    ensures { IfOk result (λ layers. layers ≡ powers_layers_of coefs.now k) }
+pub(crate) fn powers_layers(alloc: Global, powers: &RoledLeaf<'_>) -> Result<List<Layer>, NoMemory>
+    requires moves { powers.now.leaf.now.moves ≡ powers_moves powers.now.coefs.now powers.now.k }
+    ensures { IfOk result (λ layers. layers ≡ powers_layers_of powers.now.coefs.now powers.now.k) }
 {
-    let sum = first_weights(alloc, k, roles)?;
-    let to_true = answer_weights(alloc, false, roles)?;
-    let to_false = answer_weights(alloc, true, roles)?;
+    let sum = first_weights(alloc, powers.k, powers.roles)?;
+    let to_true = answer_weights(alloc, false, powers.roles)?;
+    let to_false = answer_weights(alloc, true, powers.roles)?;
     let mut layers = Vec::new(alloc);
-    layers.push(layer(alloc, leaf, roles, 0, sum)?)?;
-    layers.push(layer(alloc, leaf, roles, 1, to_true)?)?;
-    layers.push(layer(alloc, leaf, roles, 2, to_false)?)?;
+    layers.push(layer(alloc, powers.leaf, powers.roles, 0, sum)?)?;
+    layers.push(layer(alloc, powers.leaf, powers.roles, 1, to_true)?)?;
+    layers.push(layer(alloc, powers.leaf, powers.roles, 2, to_false)?)?;
     Ok(List::from_vec(layers))
 }

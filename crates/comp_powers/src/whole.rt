@@ -6,6 +6,7 @@ ghost use Rattle.comp_trees.specs.BuiltLeaf.{IsBuilt};
 ghost use Rattle.comp_powers_leaf.specs.PowersLeaf.{IsPowers, HasRoom, powers_leaf_of};
 ghost use Rattle.comp_powers.specs.PowersProof.{powers_part, powers_steps, powers_pred_of};
 
+use crate::roled::RoledLeaf;
 use crate::trees::tree;
 use crate::weights::powers_layers;
 use cert_base::LeafProof;
@@ -42,10 +43,15 @@ fn leaf_proof(
 {
     let pred = powers_pred(alloc, coefs, bound, k)?;
     let roles = roles(alloc, coefs, k)?;
-    let list = roles.as_slice();
-    let layers = powers_layers(alloc, leaf, coefs, k, list)?;
-    let on_true = tree(alloc, leaf, coefs, k, list, true)?;
-    let on_false = tree(alloc, leaf, coefs, k, list, false)?;
+    let powers = RoledLeaf {
+        leaf,
+        coefs,
+        k,
+        roles: roles.as_slice(),
+    };
+    let layers = powers_layers(alloc, &powers)?;
+    let on_true = tree(alloc, &powers, true)?;
+    let on_false = tree(alloc, &powers, false)?;
     Ok(LeafProof {
         pred,
         layers,

@@ -10,11 +10,5 @@ returns c =
     let pred = c.in_ok-pred.ensures ∙ ap (powers_pred_of c.args.coefs.now) (to_z-of_z w64 c.args.bound fits) in
     part-as c.args.coefs.now c.args.bound c.args.k c.args.spare c.args.leaf.now c.in_ok-pred.pred c.in_ok-layers.layers c.in_ok-on_true.on_true c.in_ok-on_false.on_false c.requires.leaf pred c.in_ok-layers.ensures c.in_ok-on_true.ensures c.in_ok-on_false.ensures
 
-pub powers_layers-requires-clause-states : goal.powers_layers-requires-clause-states
-powers_layers-requires-clause-states c = are_states c.args.coefs.now c.args.bound c.args.k c.args.spare c.args.leaf.now c.as_slice-list.result.now c.requires.range c.requires.leaf (c.as_slice-list.ensures.value ∙ c.in_ok-roles.ensures)
-
-pub tree-requires : goal.tree-requires
-tree-requires c = are_states c.args.coefs.now c.args.bound c.args.k c.args.spare c.args.leaf.now c.as_slice-list.result.now c.requires.range c.requires.leaf (c.as_slice-list.ensures.value ∙ c.in_ok-roles.ensures)
-
-pub tree-requires-2 : goal.tree-requires-2
-tree-requires-2 c = are_states c.args.coefs.now c.args.bound c.args.k c.args.spare c.args.leaf.now c.as_slice-list.result.now c.requires.range c.requires.leaf (c.as_slice-list.ensures.value ∙ c.in_ok-roles.ensures)
+pub invariant_of-powers : goal.invariant_of-powers
+invariant_of-powers c = record { states = are_states c.args.coefs.now c.args.bound c.args.k c.args.spare c.args.leaf.now c.as_slice.result.now c.requires.range c.requires.leaf (c.as_slice.ensures.value ∙ c.in_ok-roles.ensures) }
