@@ -6,9 +6,9 @@ ghost use Rattle.comp_flock.specs.declared.limits.TheConstants.{PLACE_LIMIT};
 ghost use Rattle.comp_flock.specs.FlockLeaf.{conversion_move};
 ghost use Rattle.comp_prefix.specs.PrefixLeaf.{full_move as full_of, join_move as join_of, pair_moves};
 ghost use Rattle.comp_prefix.specs.PrefixLeaf.{moves_from as from_of};
-ghost use Rattle.comp_prefix.specs.PrefixLeaf.{prefix_moves, AreWorths};
+ghost use Rattle.comp_prefix.specs.PrefixLeaf.{prefix_moves};
 
-use crate::worths::worth_in;
+use crate::worths::{Worths, worth_in};
 use pop_io::NoMemory;
 use pop_net::Move;
 use std::alloc::Global;
@@ -40,55 +40,42 @@ fn join_move(p: u16, q: u16) -> Move
 }
 
 /// The move of two states that are not full, if they have one.
-fn push_pair(
-    moves: &mut Vec<Move>,
-    worths: &[u64],
-    enough: u64,
-    k: u16,
-    p: u16,
-    q: u16,
-) -> Result<(), NoMemory>
-    requires worths { AreWorths worths.now k }
-    requires first { p ≤ k }
+fn push_pair(moves: &mut Vec<Move>, worths: &Worths<'_>, p: u16, q: u16) -> Result<(), NoMemory>
+    requires first { p ≤ worths.now.k }
     requires second { q ≤ p }
-    ensures { OnOk result (moves.new.items ≡ moves.old.items ++ pair_moves worths.now enough k p q) }
+    ensures { OnOk result (moves.new.items
+        ≡ moves.old.items ++ pair_moves worths.now.list.now worths.now.enough worths.now.k p q) }
 {
-    let sum = worth_in(worths, k, p) + worth_in(worths, k, q);
-    if enough <= sum {
-        moves.push(full_move(k, p, q))?;
-    } else if sum == worth_in(worths, k, p + 1) {
+    let sum = worth_in(worths, p) + worth_in(worths, q);
+    if worths.enough <= sum {
+        moves.push(full_move(worths.k, p, q))?;
+    } else if sum == worth_in(worths, p + 1) {
         moves.push(join_move(p, q))?;
     }
     Ok(())
 }
 
 /// The moves of a state with those that are worth no more.
-fn moves_from(
-    alloc: Global,
-    worths: &[u64],
-    enough: u64,
-    k: u16,
-    p: u16,
-) -> Result<Vec<Move>, NoMemory>
-    requires worths { AreWorths worths.now k }
-    requires first { p ≤ k }
-    ensures { IfOk result (λ moves. moves.items ≡ from_of worths.now enough k p) }
+fn moves_from(alloc: Global, worths: &Worths<'_>, p: u16) -> Result<Vec<Move>, NoMemory>
+    requires first { p ≤ worths.now.k }
+    ensures { IfOk result (λ moves.
+        moves.items ≡ from_of worths.now.list.now worths.now.enough worths.now.k p) }
 {
     let mut moves = Vec::new(alloc);
     for q in 0..p + 1 {
-        push_pair(&mut moves, worths, enough, k, p, q)?;
+        push_pair(&mut moves, worths, p, q)?;
     }
     Ok(moves)
 }
 
 /// The moves of all states that are not full.
-fn pairs(alloc: Global, worths: &[u64], enough: u64, k: u16) -> Result<Vec<Move>, NoMemory>
-    requires { AreWorths worths.now k }
-    ensures { IfOk result (λ moves. moves.items ≡ flat_map (from_of worths.now enough k) (range_with_len 0 (k + 1))) }
+fn pairs(alloc: Global, worths: &Worths<'_>) -> Result<Vec<Move>, NoMemory>
+    ensures { IfOk result (λ moves. moves.items
+        ≡ flat_map (from_of worths.now.list.now worths.now.enough worths.now.k) (range_with_len 0 (worths.now.k + 1))) }
 {
     let mut moves = Vec::new(alloc);
-    for p in 0..k + 1 {
-        let own = moves_from(alloc, worths, enough, k, p)?;
+    for p in 0..worths.k + 1 {
+        let own = moves_from(alloc, worths, p)?;
         moves.extend_from_slice(own.as_slice())?;
     }
     Ok(moves)
@@ -103,17 +90,12 @@ fn conversions(alloc: Global, k: u16) -> Result<Vec<Move>, NoMemory>
 }
 
 /// First those of two that are not full, then those of a full one.
-pub(crate) fn moves(
-    alloc: Global,
-    worths: &[u64],
-    enough: u64,
-    k: u16,
-) -> Result<Vec<Move>, NoMemory>
-    requires { AreWorths worths.now k }
-    ensures { IfOk result (λ moves. moves.items ≡ prefix_moves worths.now enough k) }
+pub(crate) fn moves(alloc: Global, worths: &Worths<'_>) -> Result<Vec<Move>, NoMemory>
+    ensures { IfOk result (λ moves.
+        moves.items ≡ prefix_moves worths.now.list.now worths.now.enough worths.now.k) }
 {
-    let mut moves = pairs(alloc, worths, enough, k)?;
-    let conversions = conversions(alloc, k)?;
+    let mut moves = pairs(alloc, worths)?;
+    let conversions = conversions(alloc, worths.k)?;
     moves.extend_from_slice(conversions.as_slice())?;
     Ok(moves)
 }

@@ -6,12 +6,11 @@ ghost use Rattle.cert_base.specs.Rows.{zeros};
 ghost use Rattle.comp_trees.specs.LeaderTree.{company_of};
 ghost use Rattle.comp_flock.specs.declared.limits.TheConstants.{POWER_LIMIT};
 ghost use Rattle.comp_flock.specs.FlockProof.{for_states};
-ghost use Rattle.comp_prefix.specs.PrefixLeaf.{AreWorths};
 ghost use Rattle.comp_prefix.specs.PrefixProof.{greatest_worth, lost_worth as lost_of, lesser_worth as lesser_of};
 ghost use Rattle.comp_prefix.specs.PrefixProof.{is_low as low_of, kept_worth as kept_of, ruled_worth as ruled_of};
 ghost use Rattle.comp_prefix.specs.PrefixProof.{own_worth as own_of, with_mix, without_mix, first_mix};
 
-use crate::worths::worth_in;
+use crate::worths::{Worths, worth_in};
 use comp_flock::POWER_LIMIT as GREATEST_POWER;
 use comp_powers_leaf::two_to;
 use comp_trees::{company, mix, picked};
@@ -19,146 +18,133 @@ use pop_io::NoMemory;
 use pop_net::Leaf;
 use std::alloc::Global;
 
-fn own_worth(worths: &[u64], k: u16, q: u16) -> i64
-    requires worths { AreWorths worths.now k }
-    requires state { q ≤ k + 1 }
-    ensures { result ≡ own_of worths.now q }
+fn own_worth(worths: &Worths<'_>, q: u16) -> i64
+    requires state { q ≤ worths.now.k + 1 }
+    ensures { result ≡ own_of worths.now.list.now q }
 {
-    worth_in(worths, k, q) as i64
+    worth_in(worths, q) as i64
 }
 
 /// What an agent in the state is worth at most.
-fn greatest(worths: &[u64], k: u16, q: u16) -> u64
-    requires worths { AreWorths worths.now k }
-    requires state { q ≤ k + 1 }
-    ensures value { result ≡ greatest_worth worths.now k q }
+fn greatest(worths: &Worths<'_>, q: u16) -> u64
+    requires state { q ≤ worths.now.k + 1 }
+    ensures value { result ≡ greatest_worth worths.now.list.now worths.now.k q }
     ensures small { result ≤ 2 ^ POWER_LIMIT }
 {
-    if q == k + 1 {
+    if q == worths.k + 1 {
         two_to(GREATEST_POWER)
     } else {
-        worth_in(worths, k, q)
+        worth_in(worths, q)
     }
 }
 
-fn lost_worth(worths: &[u64], k: u16, q: u16) -> i64
-    requires worths { AreWorths worths.now k }
-    requires state { q ≤ k + 1 }
-    ensures { result ≡ lost_of worths.now k q }
+fn lost_worth(worths: &Worths<'_>, q: u16) -> i64
+    requires state { q ≤ worths.now.k + 1 }
+    ensures { result ≡ lost_of worths.now.list.now worths.now.k q }
 {
-    -(greatest(worths, k, q) as i64)
+    -(greatest(worths, q) as i64)
 }
 
 /// What it is worth, but 0 for the full state.
-fn lesser_worth(worths: &[u64], k: u16, q: u16) -> i64
-    requires worths { AreWorths worths.now k }
-    requires state { q ≤ k + 1 }
-    ensures { result ≡ lesser_of worths.now k q }
+fn lesser_worth(worths: &Worths<'_>, q: u16) -> i64
+    requires state { q ≤ worths.now.k + 1 }
+    ensures { result ≡ lesser_of worths.now.list.now worths.now.k q }
 {
-    if q == k + 1 {
+    if q == worths.k + 1 {
         0
     } else {
-        own_worth(worths, k, q)
+        own_worth(worths, q)
     }
 }
 
 /// Whether an agent is worth less than what a prefix lacks to the next.
-fn is_low(worths: &[u64], k: u16, p: u16, q: u16) -> bool
-    requires worths { AreWorths worths.now k }
-    requires prefix { p ≤ k }
-    requires state { q ≤ k + 1 }
-    ensures { result ≡ low_of worths.now p q }
+fn is_low(worths: &Worths<'_>, p: u16, q: u16) -> bool
+    requires prefix { p ≤ worths.now.k }
+    requires state { q ≤ worths.now.k + 1 }
+    ensures { result ≡ low_of worths.now.list.now p q }
 {
-    worth_in(worths, k, p) + worth_in(worths, k, q) < worth_in(worths, k, p + 1)
+    worth_in(worths, p) + worth_in(worths, q) < worth_in(worths, p + 1)
 }
 
-fn kept_worth(worths: &[u64], k: u16, p: u16, q: u16) -> i64
-    requires worths { AreWorths worths.now k }
-    requires prefix { p ≤ k }
-    requires state { q ≤ k + 1 }
-    ensures { result ≡ kept_of worths.now p q }
+fn kept_worth(worths: &Worths<'_>, p: u16, q: u16) -> i64
+    requires prefix { p ≤ worths.now.k }
+    requires state { q ≤ worths.now.k + 1 }
+    ensures { result ≡ kept_of worths.now.list.now p q }
 {
-    if is_low(worths, k, p, q) {
-        own_worth(worths, k, q)
+    if is_low(worths, p, q) {
+        own_worth(worths, q)
     } else {
         0
     }
 }
 
-fn ruled_worth(worths: &[u64], k: u16, p: u16, q: u16) -> i64
-    requires worths { AreWorths worths.now k }
-    requires prefix { p ≤ k }
-    requires state { q ≤ k + 1 }
-    ensures { result ≡ ruled_of worths.now k p q }
+fn ruled_worth(worths: &Worths<'_>, p: u16, q: u16) -> i64
+    requires prefix { p ≤ worths.now.k }
+    requires state { q ≤ worths.now.k + 1 }
+    ensures { result ≡ ruled_of worths.now.list.now worths.now.k p q }
 {
-    if is_low(worths, k, p, q) {
+    if is_low(worths, p, q) {
         0
     } else {
-        lost_worth(worths, k, q)
+        lost_worth(worths, q)
     }
 }
 
-fn all_lost(alloc: Global, worths: &[u64], k: u16) -> Result<Vec<i64>, NoMemory>
-    requires { AreWorths worths.now k }
-    ensures { IfOk result (λ all. all.items ≡ for_states k (lost_of worths.now k)) }
+fn all_lost(alloc: Global, worths: &Worths<'_>) -> Result<Vec<i64>, NoMemory>
+    ensures { IfOk result (λ all. all.items ≡ for_states worths.now.k (lost_of worths.now.list.now worths.now.k)) }
 {
-    let all = (0..k + 2).map(|q| lost_worth(worths, k, q)).collect(alloc)?;
-    Ok(all)
-}
-
-fn all_lesser(alloc: Global, worths: &[u64], k: u16) -> Result<Vec<i64>, NoMemory>
-    requires { AreWorths worths.now k }
-    ensures { IfOk result (λ all. all.items ≡ for_states k (lesser_of worths.now k)) }
-{
-    let all = (0..k + 2)
-        .map(|q| lesser_worth(worths, k, q))
+    let all = (0..worths.k + 2)
+        .map(|q| lost_worth(worths, q))
         .collect(alloc)?;
     Ok(all)
 }
 
-fn all_ruled(alloc: Global, worths: &[u64], k: u16, p: u16) -> Result<Vec<i64>, NoMemory>
-    requires worths { AreWorths worths.now k }
-    requires prefix { p ≤ k }
-    ensures { IfOk result (λ all. all.items ≡ for_states k (ruled_of worths.now k p)) }
+fn all_lesser(alloc: Global, worths: &Worths<'_>) -> Result<Vec<i64>, NoMemory>
+    ensures { IfOk result (λ all. all.items ≡ for_states worths.now.k (lesser_of worths.now.list.now worths.now.k)) }
 {
-    let all = (0..k + 2)
-        .map(|q| ruled_worth(worths, k, p, q))
+    let all = (0..worths.k + 2)
+        .map(|q| lesser_worth(worths, q))
+        .collect(alloc)?;
+    Ok(all)
+}
+
+fn all_ruled(alloc: Global, worths: &Worths<'_>, p: u16) -> Result<Vec<i64>, NoMemory>
+    requires prefix { p ≤ worths.now.k }
+    ensures { IfOk result (λ all. all.items ≡ for_states worths.now.k (ruled_of worths.now.list.now worths.now.k p)) }
+{
+    let all = (0..worths.k + 2)
+        .map(|q| ruled_worth(worths, p, q))
         .collect(alloc)?;
     Ok(all)
 }
 
 /// What is kept of the powers.
-fn all_kept(alloc: Global, worths: &[u64], k: u16, top: u16, p: u16) -> Result<Vec<i64>, NoMemory>
-    requires worths { AreWorths worths.now k }
-    requires top { top ≤ k }
-    requires prefix { p ≤ k }
-    ensures { IfOk result (λ all. all.items ≡ map (kept_of worths.now p) (range_with_len 1 top)) }
+fn all_kept(alloc: Global, worths: &Worths<'_>, p: u16) -> Result<Vec<i64>, NoMemory>
+    requires prefix { p ≤ worths.now.k }
+    ensures { IfOk result (λ all. all.items ≡ map (kept_of worths.now.list.now p) (range_with_len 1 worths.now.top)) }
 {
-    let all = (1..top + 1)
-        .map(|q| kept_worth(worths, k, p, q))
+    let all = (1..worths.top + 1)
+        .map(|q| kept_worth(worths, p, q))
         .collect(alloc)?;
     Ok(all)
 }
 
-fn powers(alloc: Global, worths: &[u64], k: u16, top: u16) -> Result<Vec<i64>, NoMemory>
-    requires worths { AreWorths worths.now k }
-    requires top { top ≤ k }
-    ensures { IfOk result (λ all. all.items ≡ map (own_of worths.now) (range_with_len 1 top)) }
+fn powers(alloc: Global, worths: &Worths<'_>) -> Result<Vec<i64>, NoMemory>
+    ensures { IfOk result (λ all. all.items ≡ map (own_of worths.now.list.now) (range_with_len 1 worths.now.top)) }
 {
-    let all = (1..top + 1)
-        .map(|q| own_worth(worths, k, q))
+    let all = (1..worths.top + 1)
+        .map(|q| own_worth(worths, q))
         .collect(alloc)?;
     Ok(all)
 }
 
 /// What the prefixes other than c lose.
-fn prefixes(alloc: Global, worths: &[u64], k: u16, top: u16) -> Result<Vec<i64>, NoMemory>
-    requires worths { AreWorths worths.now k }
-    requires top { top ≤ k }
-    ensures { IfOk result (λ all. all.items ≡ map (lost_of worths.now k) (range_with_len (top + 1) (k - top))) }
+fn prefixes(alloc: Global, worths: &Worths<'_>) -> Result<Vec<i64>, NoMemory>
+    ensures { IfOk result (λ all. all.items ≡ map (lost_of worths.now.list.now worths.now.k)
+        (range_with_len (worths.now.top + 1) (worths.now.k - worths.now.top))) }
 {
-    let all = (top + 1..k + 1)
-        .map(|q| lost_worth(worths, k, q))
+    let all = (worths.top + 1..worths.k + 1)
+        .map(|q| lost_worth(worths, q))
         .collect(alloc)?;
     Ok(all)
 }
@@ -173,49 +159,43 @@ fn behind(alloc: Global, first: i64, powers: Vec<i64>) -> Result<Vec<i64>, NoMem
 }
 
 /// Those above a prefix: the full state, the powers, and the prefixes before it.
-fn above(alloc: Global, worths: &[u64], k: u16, top: u16, p: u16) -> Result<Vec<i64>, NoMemory>
-    requires worths { AreWorths worths.now k }
-    requires top { top < p }
-    requires prefix { p ≤ k }
+fn above(alloc: Global, worths: &Worths<'_>, p: u16) -> Result<Vec<i64>, NoMemory>
+    requires top { worths.now.top < p }
+    requires prefix { p ≤ worths.now.k }
     ensures { IfOk result (λ all.
-        all.items ≡ (pos 0 ∷ map (kept_of worths.now p) (range_with_len 1 top)) ++ zeros (p - (top + 1))) }
+        all.items ≡ (pos 0 ∷ map (kept_of worths.now.list.now p) (range_with_len 1 worths.now.top))
+        ++ zeros (p - (worths.now.top + 1))) }
 {
-    let kept = all_kept(alloc, worths, k, top, p)?;
+    let kept = all_kept(alloc, worths, p)?;
     let mut all = behind(alloc, 0, kept)?;
-    let none = vec![in alloc; 0i64; usize::from(p - (top + 1))]?;
+    let none = vec![in alloc; 0i64; usize::from(p - (worths.top + 1))]?;
     all.extend_from_slice(none.as_slice())?;
     Ok(all)
 }
 
 /// Those of the states that a prefix rules out.
-fn ruled_out(
-    alloc: Global,
-    leaf: &Leaf,
-    worths: &[u64],
-    k: u16,
-    p: u16,
-) -> Result<Vec<i64>, NoMemory>
-    requires worths { AreWorths worths.now k }
-    requires states { length leaf.now.states ≡ k + 2 }
-    requires prefix { p ≤ k }
-    ensures { IfOk result (λ out. out.items ≡ map (ruled_of worths.now k p) (company_of leaf.now p)) }
+fn ruled_out(alloc: Global, leaf: &Leaf, worths: &Worths<'_>, p: u16) -> Result<Vec<i64>, NoMemory>
+    requires states { length leaf.now.states ≡ worths.now.k + 2 }
+    requires prefix { p ≤ worths.now.k }
+    ensures { IfOk result (λ out.
+        out.items ≡ map (ruled_of worths.now.list.now worths.now.k p) (company_of leaf.now p)) }
 {
     let states = company(alloc, leaf, p)?;
-    let ruled = all_ruled(alloc, worths, k, p)?;
+    let ruled = all_ruled(alloc, worths, p)?;
     picked(alloc, ruled.as_slice(), states.as_slice())
 }
 
 /// Those of a prefix that is present: itself, whom it rules out, and that it is alone.
-fn present(alloc: Global, leaf: &Leaf, worths: &[u64], k: u16, p: u16) -> Result<Vec<i64>, NoMemory>
-    requires worths { AreWorths worths.now k }
-    requires states { length leaf.now.states ≡ k + 2 }
-    requires prefix { p ≤ k }
+fn present(alloc: Global, leaf: &Leaf, worths: &Worths<'_>, p: u16) -> Result<Vec<i64>, NoMemory>
+    requires states { length leaf.now.states ≡ worths.now.k + 2 }
+    requires prefix { p ≤ worths.now.k }
     ensures { IfOk result (λ all. all.items
-        ≡ (pos 0 ∷ map (ruled_of worths.now k p) (company_of leaf.now p)) ++ neg_ℤ (own_of worths.now p) ∷ []) }
+        ≡ (pos 0 ∷ map (ruled_of worths.now.list.now worths.now.k p) (company_of leaf.now p))
+        ++ neg_ℤ (own_of worths.now.list.now p) ∷ []) }
 {
-    let out = ruled_out(alloc, leaf, worths, k, p)?;
+    let out = ruled_out(alloc, leaf, worths, p)?;
     let mut all = behind(alloc, 0, out)?;
-    all.push(-own_worth(worths, k, p))?;
+    all.push(-own_worth(worths, p))?;
     Ok(all)
 }
 
@@ -223,54 +203,40 @@ fn present(alloc: Global, leaf: &Leaf, worths: &[u64], k: u16, p: u16) -> Result
 pub(crate) fn with_prefix(
     alloc: Global,
     leaf: &Leaf,
-    worths: &[u64],
-    k: u16,
-    top: u16,
+    worths: &Worths<'_>,
     p: u16,
 ) -> Result<Vec<i64>, NoMemory>
-    requires worths { AreWorths worths.now k }
-    requires states { length leaf.now.states ≡ k + 2 }
-    requires top { top < p }
-    requires prefix { p ≤ k }
-    ensures { IfOk result (λ multipliers. multipliers.items ≡ with_mix leaf.now worths.now k top p) }
+    requires states { length leaf.now.states ≡ worths.now.k + 2 }
+    requires top { worths.now.top < p }
+    requires prefix { p ≤ worths.now.k }
+    ensures { IfOk result (λ multipliers.
+        multipliers.items ≡ with_mix leaf.now worths.now.list.now worths.now.k worths.now.top p) }
 {
-    let mut own = above(alloc, worths, k, top, p)?;
-    let present = present(alloc, leaf, worths, k, p)?;
+    let mut own = above(alloc, worths, p)?;
+    let present = present(alloc, leaf, worths, p)?;
     own.extend_from_slice(present.as_slice())?;
-    let flows = all_lost(alloc, worths, k)?;
+    let flows = all_lost(alloc, worths)?;
     mix(alloc, flows.as_slice(), 0, 1, own.as_slice())
 }
 
 /// With no prefix.
-pub(crate) fn without_prefix(
-    alloc: Global,
-    worths: &[u64],
-    k: u16,
-    top: u16,
-) -> Result<Vec<i64>, NoMemory>
-    requires worths { AreWorths worths.now k }
-    requires top { top ≤ k }
-    ensures { IfOk result (λ multipliers. multipliers.items ≡ without_mix worths.now k top) }
+pub(crate) fn without_prefix(alloc: Global, worths: &Worths<'_>) -> Result<Vec<i64>, NoMemory>
+    ensures { IfOk result (λ multipliers.
+        multipliers.items ≡ without_mix worths.now.list.now worths.now.k worths.now.top) }
 {
-    let powers = powers(alloc, worths, k, top)?;
+    let powers = powers(alloc, worths)?;
     let mut own = behind(alloc, -(two_to(GREATEST_POWER) as i64), powers)?;
-    let prefixes = prefixes(alloc, worths, k, top)?;
+    let prefixes = prefixes(alloc, worths)?;
     own.extend_from_slice(prefixes.as_slice())?;
-    let flows = all_lost(alloc, worths, k)?;
+    let flows = all_lost(alloc, worths)?;
     mix(alloc, flows.as_slice(), 0, 1, own.as_slice())
 }
 
 /// The first full one takes c.
-pub(crate) fn first(
-    alloc: Global,
-    worths: &[u64],
-    enough: u64,
-    k: u16,
-) -> Result<Vec<i64>, NoMemory>
-    requires worths { AreWorths worths.now k }
-    requires enough { enough ≤ 2 ^ POWER_LIMIT }
-    ensures { IfOk result (λ multipliers. multipliers.items ≡ first_mix worths.now enough k) }
+pub(crate) fn first(alloc: Global, worths: &Worths<'_>) -> Result<Vec<i64>, NoMemory>
+    ensures { IfOk result (λ multipliers.
+        multipliers.items ≡ first_mix worths.now.list.now worths.now.enough worths.now.k) }
 {
-    let flows = all_lesser(alloc, worths, k)?;
-    mix(alloc, flows.as_slice(), 0, 1, &[enough as i64])
+    let flows = all_lesser(alloc, worths)?;
+    mix(alloc, flows.as_slice(), 0, 1, &[worths.enough as i64])
 }

@@ -2,13 +2,14 @@
 
 ghost use Rattle.std.specs.Prelude.{◌≡◌, IfOk};
 ghost use Rattle.comp_trees.specs.BuiltLeaf.{IsBuilt};
+ghost use Rattle.comp_flock.specs.FlockLeaf.{enough_for as enough};
 ghost use Rattle.comp_flock.specs.FlockProof.{offset_pred_of, offset_steps};
-ghost use Rattle.comp_prefix.specs.PrefixLeaf.{IsPrefix, AreWorths, bound_worths, last_place, prefix_leaf_of};
+ghost use Rattle.comp_prefix.specs.PrefixLeaf.{IsPrefix, bound_worths, last_place, prefix_leaf_of};
 ghost use Rattle.comp_prefix.specs.PrefixProof.{prefix_part};
 
 use crate::leaf::prefix_leaf;
 use crate::trees::tree;
-use crate::worths::worths;
+use crate::worths::{Worths, all_worths};
 use cert_base::LeafProof;
 use comp_flock::{POWER_LIMIT, counting_layers, enough_for, offset_pred, says_enough};
 use pop_io::NoMemory;
@@ -20,23 +21,20 @@ fn leaf_proof(
     leaf: &Leaf,
     coefs: &[i64],
     bound: i64,
-    top: u32,
-    worths: &[u64],
-    k: u16,
+    worths: &Worths<'_>,
 ) -> Result<LeafProof, NoMemory>
-    requires atom { IsPrefix coefs.now bound top }
-    requires worths { worths.now ≡ bound_worths bound top }
-    requires last { k ≡ last_place bound top }
-    requires are { AreWorths worths.now k }
-    requires leaf { leaf.now ≡ prefix_leaf_of coefs.now bound top }
-    ensures { IfOk result (λ part. part ≡ prefix_part coefs.now bound top) }
+    requires atom { IsPrefix coefs.now bound worths.now.top }
+    requires worths { worths.now.list.now ≡ bound_worths bound worths.now.top }
+    requires enough { worths.now.enough ≡ enough bound }
+    requires last { worths.now.k ≡ last_place bound worths.now.top }
+    requires leaf { leaf.now ≡ prefix_leaf_of coefs.now bound worths.now.top }
+    ensures { IfOk result (λ part. part ≡ prefix_part coefs.now bound worths.now.top) }
 {
     let pred = offset_pred(alloc, coefs, bound, POWER_LIMIT)?;
-    let layers = counting_layers(alloc, leaf.move_count(), k)?;
-    let enough = enough_for(bound);
+    let layers = counting_layers(alloc, leaf.move_count(), worths.k)?;
     let says = says_enough(bound);
-    let on_true = tree(alloc, says, leaf, worths, enough, k, top as u16)?;
-    let on_false = tree(alloc, !says, leaf, worths, enough, k, top as u16)?;
+    let on_true = tree(alloc, says, leaf, worths)?;
+    let on_false = tree(alloc, !says, leaf, worths)?;
     Ok(LeafProof {
         pred,
         layers,
@@ -58,10 +56,16 @@ pub fn prefix_flock(
     ensures { IfOk result (λ both. IsBuilt (prefix_leaf_of coefs.now bound top) (offset_pred_of coefs.now bound)
         (offset_steps (last_place bound top)) both.0 both.1) }
 {
-    let worths = worths(alloc, enough_for(bound), top)?;
-    let list = worths.as_slice();
-    let k = (list.len() - 2) as u16;
-    let leaf = prefix_leaf(alloc, coefs, bound, top, list, k)?;
-    let proof = leaf_proof(alloc, &leaf, coefs, bound, top, list, k)?;
+    let enough = enough_for(bound);
+    let all = all_worths(alloc, enough, top)?;
+    let list = all.as_slice();
+    let worths = Worths {
+        list,
+        enough,
+        top: top as u16,
+        k: (list.len() - 2) as u16,
+    };
+    let leaf = prefix_leaf(alloc, coefs, bound, &worths)?;
+    let proof = leaf_proof(alloc, &leaf, coefs, bound, &worths)?;
     Ok((leaf, proof))
 }

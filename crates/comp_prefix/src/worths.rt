@@ -13,14 +13,26 @@ use comp_powers_leaf::{is_set, two_to};
 use pop_io::NoMemory;
 use std::alloc::Global;
 
+/// What the states of a leaf are worth: nothing, then the powers up to the place `top`, then the prefixes of `enough` up
+/// to the place `k`; the full state behind them is worth at least `enough`.
+#[derive(Clone, Copy)]
+pub(crate) struct Worths<'a> {
+    pub(crate) list: &'a [u64],
+    pub(crate) enough: u64,
+    pub(crate) top: u16,
+    pub(crate) k: u16,
+    ghost are: { AreWorths list.now k },
+    ghost below: { enough ≤ 2 ^ POWER_LIMIT },
+    ghost powers: { top ≤ k },
+}
+
 /// What a state is worth.
-pub(crate) fn worth_in(worths: &[u64], k: u16, q: u16) -> u64
-    requires worths { AreWorths worths.now k }
-    requires state { q ≤ k + 1 }
-    ensures value { result ≡ worth_of worths.now q }
+pub(crate) fn worth_in(worths: &Worths<'_>, q: u16) -> u64
+    requires state { q ≤ worths.now.k + 1 }
+    ensures value { result ≡ worth_of worths.now.list.now q }
     ensures small { result ≤ 2 ^ POWER_LIMIT }
 {
-    worths[usize::from(q)]
+    worths.list[usize::from(q)]
 }
 
 /// c without its last i bits.
@@ -65,7 +77,7 @@ fn push_prefixes(worths: &mut Vec<u64>, enough: u64, count: u32) -> Result<(), N
 }
 
 /// What all states are worth, the least first.
-pub(crate) fn worths(alloc: Global, enough: u64, top: u32) -> Result<Vec<u64>, NoMemory>
+pub(crate) fn all_worths(alloc: Global, enough: u64, top: u32) -> Result<Vec<u64>, NoMemory>
     requires { top ≤ POWER_LIMIT }
     ensures { IfOk result (λ worths. worths.items ≡ worths_of enough top) }
 {

@@ -17,10 +17,10 @@ of_valid-requires c =
     let same = to_z-of_z w64 c.args.bound fits in
     let bound = c.args.bound in
     let coefs = c.args.coefs.now in
-    let ws = c.args.worths.now in
-    let k = c.args.k in
+    let ws = c.args.worths.now.list.now in
+    let k = c.args.worths.now.k in
     let says = c.says_enough.ensures ∙ ap says_enough same in
-    let enough = c.enough_for-enough.ensures ∙ ap enough_for same in
+    let enough = c.requires.enough in
     let is = leaf-as coefs (says_enough bound) (enough_for bound) ws k c.in_ok-names.names c.from_vec-moves.result c.from_vec-inputs.result c.from_vec-outputs.result c.from_vec-helpers.result
     c.in_ok-names.ensures
     (c.from_vec-moves.ensures ∙ c.in_ok-moves.ensures ∙ ap (λ n. prefix_moves ws n k) enough)
@@ -28,8 +28,8 @@ of_valid-requires c =
     (c.from_vec-outputs.ensures ∙ c.in_ok-outputs.ensures ∙ ap (λ s. map (flock_output s k) (range_with_len 0 (k + 2))) says)
     (c.from_vec-helpers.ensures ∙ c.new.ensures.items)
     ∙ ap (λ ws. prefix_leaf_with coefs (says_enough bound) (enough_for bound) ws k) c.requires.worths
-    ∙ ap (prefix_leaf_with coefs (says_enough bound) (enough_for bound) (bound_worths bound c.args.top)) c.requires.last in
-    subst IsLeaf (sym is) (prefix-formed coefs bound c.args.top c.requires.atom)
+    ∙ ap (prefix_leaf_with coefs (says_enough bound) (enough_for bound) (bound_worths bound c.args.worths.now.top)) c.requires.last in
+    subst IsLeaf (sym is) (prefix-formed coefs bound c.args.worths.now.top c.requires.atom)
 
 pub returns : goal.returns
 returns c =
@@ -37,10 +37,10 @@ returns c =
     let same = to_z-of_z w64 c.args.bound fits in
     let bound = c.args.bound in
     let coefs = c.args.coefs.now in
-    let ws = c.args.worths.now in
-    let k = c.args.k in
+    let ws = c.args.worths.now.list.now in
+    let k = c.args.worths.now.k in
     let says = c.says_enough.ensures ∙ ap says_enough same in
-    let enough = c.enough_for-enough.ensures ∙ ap enough_for same in
+    let enough = c.requires.enough in
     let is = leaf-as coefs (says_enough bound) (enough_for bound) ws k c.in_ok-names.names c.from_vec-moves.result c.from_vec-inputs.result c.from_vec-outputs.result c.from_vec-helpers.result
     c.in_ok-names.ensures
     (c.from_vec-moves.ensures ∙ c.in_ok-moves.ensures ∙ ap (λ n. prefix_moves ws n k) enough)
@@ -48,10 +48,10 @@ returns c =
     (c.from_vec-outputs.ensures ∙ c.in_ok-outputs.ensures ∙ ap (λ s. map (flock_output s k) (range_with_len 0 (k + 2))) says)
     (c.from_vec-helpers.ensures ∙ c.new.ensures.items)
     ∙ ap (λ ws. prefix_leaf_with coefs (says_enough bound) (enough_for bound) ws k) c.requires.worths
-    ∙ ap (prefix_leaf_with coefs (says_enough bound) (enough_for bound) (bound_worths bound c.args.top)) c.requires.last in
+    ∙ ap (prefix_leaf_with coefs (says_enough bound) (enough_for bound) (bound_worths bound c.args.worths.now.top)) c.requires.last in
     IfOk-weaker c.of_valid.result _ _
     (λ leaf h. record {
       built = h ∙ is;
-      single = subst (λ (l : LeafModel). AllPairs Differ l.moves) (sym (h ∙ is)) (moves-single (bound_worths bound c.args.top) (enough_for bound) (last_place bound c.args.top));
+      single = subst (λ (l : LeafModel). AllPairs Differ l.moves) (sym (h ∙ is)) (moves-single (bound_worths bound c.args.worths.now.top) (enough_for bound) (last_place bound c.args.worths.now.top));
     })
     c.of_valid.ensures

@@ -5,4 +5,4 @@ use Rattle.comp_prefix.proofs.listing.pairs.Goals as goal
 
 pub loop-p-preserved : goal.loop-p-preserved
 loop-p-preserved c =
-    flat_range_more (moves_from c.args.worths.now c.args.enough c.args.k) c.loop-p.p [] c.loop-p.moves.items c.as_slice.result.now c.extend_from_slice.new.self.items c.loop-p.invariant (c.as_slice.ensures.value ∙ c.in_ok-own.ensures) c.in_ok-extend_from_slice.ensures.items
+    flat_range_more (moves_from c.args.worths.now.list.now c.args.worths.now.enough c.args.worths.now.k) c.loop-p.p [] c.loop-p.moves.items c.as_slice.result.now c.extend_from_slice.new.self.items c.loop-p.invariant (c.as_slice.ensures.value ∙ c.in_ok-own.ensures) c.in_ok-extend_from_slice.ensures.items

@@ -4,4 +4,4 @@ use Rattle.comp_prefix.specs.PrefixLeaf.{prefix_state_name}
 use Rattle.comp_prefix.proofs.naming.names.Given as goal
 
 abbrev pub invariant-loop-q : goal.invariant-loop-q
-invariant-loop-q l = l.names.items ≡ map (prefix_state_name l.worths) (range_with_len 0 l.q)
+invariant-loop-q l = l.names.items ≡ map (prefix_state_name l.worths.list.now) (range_with_len 0 l.q)

@@ -7,4 +7,4 @@ use Rattle.comp_prefix.proofs.trees.push_ends.Given as goal
 
 abbrev pub invariant-loop-j : goal.invariant-loop-j
 invariant-loop-j l =
-    l.nodes.items ≡ l.fn.nodes.items ++ reverse (map (λ p. weighed_node (with_mix l.leaf l.worths l.k l.top p)) (range_with_len (l.k + 1 - l.j) l.j))
+    l.nodes.items ≡ l.fn.nodes.items ++ reverse (map (λ p. weighed_node (with_mix l.leaf l.worths.list.now l.worths.k l.worths.top p)) (range_with_len (l.worths.k + 1 - l.j) l.j))

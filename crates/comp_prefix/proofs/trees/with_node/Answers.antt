@@ -4,5 +4,5 @@ use Rattle.comp_prefix.proofs.trees.with_node.Goals as goal
 
 pub weighed-requires : goal.weighed-requires
 weighed-requires c =
-    let low : c.args.top ≤ c.args.k = omega (arith, c.requires.top, c.requires.prefix) in
-    omega (arith, ap length (c.as_slice.ensures.value ∙ c.in_ok-multipliers.ensures), with-short c.args.worths.now c.args.k c.args.top c.requires.worths.few c.args.leaf.now c.args.p c.requires.states low c.requires.prefix)
+    let low : c.args.worths.now.top ≤ c.args.worths.now.k = omega (arith, c.requires.top, c.requires.prefix) in
+    omega (arith, ap length (c.as_slice.ensures.value ∙ c.in_ok-multipliers.ensures), with-short c.args.worths.now.list.now c.args.worths.now.k c.args.worths.now.top c.args.worths.now.are.few c.args.leaf.now c.args.p c.requires.states low c.requires.prefix)

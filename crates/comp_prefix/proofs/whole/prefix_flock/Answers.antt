@@ -4,35 +4,35 @@ use Rattle.comp_flock.specs.FlockLeaf.{enough_for}
 use Rattle.comp_prefix.specs.PrefixLeaf.{bound_worths, worths, prefix_leaf_of, AreWorths}
 use Rattle.comp_prefix.specs.PrefixProof.{prefix_part}
 use Rattle.comp_prefix.proofs.Formed.{top-few}
-use Rattle.comp_prefix.proofs.Building.{prefix-worths, built-as}
+use Rattle.comp_prefix.proofs.Building.{prefix-worths, built-as, top-before}
 use Rattle.comp_prefix.proofs.whole.prefix_flock.Goals as goal
 
-pub worths-requires : goal.worths-requires
-worths-requires c = top-few c.args.coefs.now c.args.bound c.args.top c.requires
+pub all_worths-requires : goal.all_worths-requires
+all_worths-requires c = top-few c.args.coefs.now c.args.bound c.args.top c.requires
 
-pub overflow_cast-k : goal.overflow_cast-k
-overflow_cast-k c =
+pub overflow_cast-worths : goal.overflow_cast-worths
+overflow_cast-worths c = let few = top-few c.args.coefs.now c.args.bound c.args.top c.requires in omega (arith, few)
+
+pub overflow_cast-worths-2 : goal.overflow_cast-worths-2
+overflow_cast-worths-2 c =
     let fits : SFits w64 c.args.bound = search rules in
-    let enough = c.enough_for.ensures ∙ ap enough_for (to_z-of_z w64 c.args.bound fits) in
-    let list : c.as_slice-list.result.now ≡ bound_worths c.args.bound c.args.top = c.as_slice-list.ensures.value ∙ c.in_ok-worths.ensures ∙ ap (λ n. worths n c.args.top) enough in
+    let enough = c.enough_for-enough.ensures ∙ ap enough_for (to_z-of_z w64 c.args.bound fits) in
+    let list = c.as_slice-list.ensures.value ∙ c.in_ok-all.ensures ∙ ap (λ n. worths n c.args.top) enough in
     let are = prefix-worths c.args.coefs.now c.args.bound c.args.top c.requires in
     let few = are.few in
     let long = ap length list in
     omega (arith, few, long)
 
-pub prefix_leaf-requires-clause-are : goal.prefix_leaf-requires-clause-are
-prefix_leaf-requires-clause-are c =
+pub invariant_of-worths : goal.invariant_of-worths
+invariant_of-worths c =
     let fits : SFits w64 c.args.bound = search rules in
-    let enough = c.enough_for.ensures ∙ ap enough_for (to_z-of_z w64 c.args.bound fits) in
-    let list : c.as_slice-list.result.now ≡ bound_worths c.args.bound c.args.top = c.as_slice-list.ensures.value ∙ c.in_ok-worths.ensures ∙ ap (λ n. worths n c.args.top) enough in
-    subst (λ ws. AreWorths ws (length ws - 2)) (sym list) (prefix-worths c.args.coefs.now c.args.bound c.args.top c.requires)
-
-pub leaf_proof-requires-clause-are : goal.leaf_proof-requires-clause-are
-leaf_proof-requires-clause-are c =
-    let fits : SFits w64 c.args.bound = search rules in
-    let enough = c.enough_for.ensures ∙ ap enough_for (to_z-of_z w64 c.args.bound fits) in
-    let list : c.as_slice-list.result.now ≡ bound_worths c.args.bound c.args.top = c.as_slice-list.ensures.value ∙ c.in_ok-worths.ensures ∙ ap (λ n. worths n c.args.top) enough in
-    subst (λ ws. AreWorths ws (length ws - 2)) (sym list) (prefix-worths c.args.coefs.now c.args.bound c.args.top c.requires)
+    let enough = c.enough_for-enough.ensures ∙ ap enough_for (to_z-of_z w64 c.args.bound fits) in
+    let list : c.as_slice-list.result.now ≡ bound_worths c.args.bound c.args.top = c.as_slice-list.ensures.value ∙ c.in_ok-all.ensures ∙ ap (λ n. worths n c.args.top) enough in
+    record {
+      are = subst (λ ws. AreWorths ws (length ws - 2)) (sym list) (prefix-worths c.args.coefs.now c.args.bound c.args.top c.requires);
+      below = omega (arith, enough, c.requires.within);
+      powers = top-before c.args.coefs.now c.args.bound c.args.top _ c.requires (ap (λ ws. length ws - 2) list);
+    }
 
 pub returns : goal.returns
 returns c =
