@@ -27,7 +27,7 @@ use Rattle.net_goals.specs.StablyRight.{IsStablyRight}
 use Rattle.net_goals.specs.LeafGoals.{IsLeafGoalFrom, IsLeafGoal, LeafPart, parts_bound, HasLeafGoals}
 use Rattle.net_goals.specs.Kinds.{ValueGoal, LeafKind, Silent, Stable, kind_bound, for_value, KindPart, IsSilentEnd, IsAtRest, EndsRightWithin, HoldsFrom, HoldsAt, ComesToRest, part_of, parts_of, ComeToRest}
 use Rattle.net_goals.specs.Laws.{MixedLeavesAreRight}
-use Rattle.net_goals.proofs.Join.{output_stable}
+use Rattle.net_goals.proofs.JoinedGoals.{output_stable}
 use Rattle.net_goals.proofs.Right.{join_right}
 
 -- ---- a silent leaf

@@ -1,12 +1,12 @@
 pub mod Orders
-pub mod Join
+pub mod JoinedGoals
 pub mod Shares
 pub mod Exceptions
 pub mod Random
 pub mod Turns
-pub mod Same
+pub mod SameCrowds
 pub mod Options
-pub mod Extend
+pub mod FairExtension
 pub mod Right
 pub mod EitherKind
 pub mod Flickers

@@ -9,7 +9,7 @@ use Rattle.net_goals.specs.Laws.{LeafGoalsJoin}
 use Rattle.net_laws.proofs.Led.{own_changes}
 use Rattle.net_laws.proofs.Moves.{steps_can, synchronous_can, meetings_can}
 use Rattle.net_goals.specs.LeafGoals.{parts_bound}
-use Rattle.net_goals.proofs.Join.{comes, fairly}
+use Rattle.net_goals.proofs.JoinedGoals.{comes, fairly}
 use Rattle.net_goals.proofs.Random.{rest_randomly}
 
 pub join_right : (Goals : ℕ → List ℕ → List ℕ → Type 0) → LeafGoalsJoin Goals

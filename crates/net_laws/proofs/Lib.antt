@@ -1,4 +1,4 @@
 pub mod Combined
 pub mod Led
 pub mod Moves
-pub mod Walk
+pub mod LeafByLeaf

@@ -18,7 +18,7 @@ use Rattle.pop_journal.specs.declared.fault.VerifyFault.{VerifyFault}
 use Rattle.pop_journal.specs.Expected.{Compared, both, next_meeting, line_at_end, rounds_compared, tail_compared, whole_tail_until, first_difference}
 use Rattle.pop_journal.specs.Standing.{IsForEnd, Passes, lacking_behind}
 use Rattle.pop_journal.proofs.Spelled.{meeting_no_end}
-use Rattle.pop_journal.proofs.Walk.{carried}
+use Rattle.pop_journal.proofs.AlongTheJournal.{carried}
 
 undecided : (outcome : Outcome) (pair : Option (ℕ × ℕ)) (output : Option Bool) → last_is_undecided (ending_with outcome pair output) ≡ true → is_none pair ≡ false
 undecided Agreed None None e = absurd (false≢true e)

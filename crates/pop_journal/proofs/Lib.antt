@@ -4,7 +4,7 @@ pub mod Looks
 pub mod Spelled
 pub mod Holds
 pub mod Steps
-pub mod Walk
+pub mod AlongTheJournal
 pub mod AtEnd
 pub mod Counts
 pub mod Lacks

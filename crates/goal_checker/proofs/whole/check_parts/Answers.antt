@@ -1,6 +1,6 @@
 use Rattle.std.proofs.Common.{◌<◌, length, ap, arith}
 use Rattle.std.proofs.lemmas.Result.{err_from_is_err_and}
-use Rattle.net_laws.proofs.Walk.{part_at}
+use Rattle.net_laws.proofs.LeafByLeaf.{part_at}
 use Rattle.pop_checker.proofs.PartWalk.{part_more, all_hold, named_by}
 use Rattle.goal_checker.specs.ValidStable.{ValidPart, part_bound}
 use Rattle.goal_checker.specs.Rejections.{IsPartRejected, IsStableRejected}

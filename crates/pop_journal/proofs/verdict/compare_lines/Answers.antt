@@ -9,7 +9,7 @@ use Rattle.terminal_test.specs.TableNet.{table_net}
 use Rattle.pair_workers.specs.Run.{joined}
 use Rattle.pop_journal.specs.Expected.{Compared, first_difference, lacking, rounds_compared, tail_compared, whole_tail_until, journal_compared_until}
 use Rattle.pop_journal.specs.Standing.{IsReplaying, lacking_behind}
-use Rattle.pop_journal.proofs.Walk.{round_compared, round_passed, round_differs, carried}
+use Rattle.pop_journal.proofs.AlongTheJournal.{round_compared, round_passed, round_differs, carried}
 use Rattle.pop_journal.proofs.RoundAt.{round_is, range_at, below_at, joined_is, drop_is, lacking_next, long_at, early}
 use Rattle.pop_journal.proofs.Lacks.{behind_below}
 use Rattle.pop_journal.proofs.AtEnd.{end_passes, end_differs}

@@ -25,7 +25,7 @@ use Rattle.pop_random.proofs.Listed.{all_flat, has_flat, at_contained}
 use Rattle.list_laws.proofs.Lists.{has_map}
 use Rattle.net_goals.specs.AnyNet.{FairOfAllKinds}
 use Rattle.net_laws.proofs.Led.{own_changes}
-use Rattle.net_goals.proofs.Same.{same_crowds, crowds_tell}
+use Rattle.net_goals.proofs.SameCrowds.{same_crowds, crowds_tell}
 use Rattle.net_goals.proofs.Turns.{turns, turns_first, turns_one, comes, joined, joined_first, joined_runs, joined_begins, joined_fair}
 use Rattle.net_goals.proofs.Options.{IsListed, step_ways, steps_listed, synchronous_ways, synchronous_listed, meeting_ways, meetings_listed}
 
