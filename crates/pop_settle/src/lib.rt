@@ -7,6 +7,7 @@ mod bound;
 mod fault;
 mod groups;
 mod law;
+mod layered;
 mod limits;
 mod runs;
 mod settling;

@@ -11,8 +11,8 @@ use Rattle.pop_settle.proofs.settling.next_take.Goals as goal
 
 below : (c : After-move_at-t) → IsMoveBelow (length c.places.groups.groups.items) c.move_at-t.result
 below c =
-    let is = All-slice_get (IsMoveBelow (length c.args.leaf.now.states)) c.args.leaf.now.moves (get_or c.args.moves.now c.places.place 0) c.move_at-t.result c.requires.formed.moves c.move_at-t.ensures in
-    subst (λ (n : ℕ). IsMoveBelow n c.move_at-t.result) (sym (c.places.invariant.count ∙ c.requires.count)) is
+    let is = All-slice_get (IsMoveBelow (length c.args.list.now.leaf.now.states)) c.args.list.now.leaf.now.moves (get_or c.args.list.now.moves.now c.places.place 0) c.move_at-t.result c.args.list.now.formed.moves c.move_at-t.ensures in
+    subst (λ (n : ℕ). IsMoveBelow n c.move_at-t.result) (sym (c.places.invariant.count ∙ c.requires)) is
 
 pub make-requires : goal.make-requires
 make-requires c = below (goal.at.make-requires c).After-move_at-t
@@ -23,15 +23,15 @@ step_is moves k l = slice_get-get_or moves k 0 l
 -- nobody holds the first state of a run
 pub places-preserved-then-is_empty : goal.places-preserved-then-is_empty
 places-preserved-then-is_empty c =
-    let ends = c.args.ends.now in
+    let ends = c.args.list.now.ends.now in
     let place = c.places.place in
-    let here : slice_get ends place ≡ Some (get_or ends place 0) = slice_get-get_or ends place 0 (let l : place < length ends = omega (arith, c.places-test.true, c.requires.ends.long) in l) in
+    let here : slice_get ends place ≡ Some (get_or ends place 0) = slice_get-get_or ends place 0 (let l : place < length ends = omega (arith, c.places-test.true, c.args.list.now.runs.long) in l) in
     let p_in = (below (goal.at.places-preserved-then-is_empty c).After-move_at-t).0 in
     record {
       count = c.places.invariant.count;
       idle = λ states are.
           let before = c.places.invariant.idle states are in
-          (before.0, run_idle c.args.leaf.now c.args.moves.now states c.places.groups.groups.items place (get_or ends place 0) (get_or c.args.moves.now place 0) c.move_at-t.result (step_is c.args.moves.now place c.places-test.true) c.move_at-t.ensures p_in before.0 (c.is_empty.ensures c.if-is_empty.true) (c.requires.ends.runs place (get_or ends place 0) here) before.1);
+          (before.0, run_idle c.args.list.now.leaf.now c.args.list.now.moves.now states c.places.groups.groups.items place (get_or ends place 0) (get_or c.args.list.now.moves.now place 0) c.move_at-t.result (step_is c.args.list.now.moves.now place c.places-test.true) c.move_at-t.ensures p_in before.0 (c.is_empty.ensures c.if-is_empty.true) (c.args.list.now.runs.runs place (get_or ends place 0) here) before.1);
     }
 
 pub returns-in-Some-clause-found : goal.returns-in-Some-clause-found
@@ -43,7 +43,7 @@ returns-in-Some-clause-found c = λ states are.
       record {
         place = c.places.place;
         move = c.move_at-t.result;
-        step_is = step_is c.args.moves.now c.places.place c.places-test.true;
+        step_is = step_is c.args.list.now.moves.now c.places.place c.places-test.true;
         move_is = c.move_at-t.ensures;
         least = made.0;
         idle = before.1;
@@ -58,10 +58,10 @@ places-preserved c = record {
       let before = c.places.invariant.idle states are in
       let made : IsMade states c.move_at-t.result None c.make.new.self.groups.items =
       subst (λ (o : Option (ℕ × ℕ)). IsMade states c.move_at-t.result o c.make.new.self.groups.items) c.in_default.is (c.in_ok-a.ensures.made states before.0) in
-      (made.0, idle_more c.args.leaf.now c.args.moves.now states c.places.place (get_or c.args.moves.now c.places.place 0) c.move_at-t.result (step_is c.args.moves.now c.places.place c.places-test.true) c.move_at-t.ensures before.1 made.1);
+      (made.0, idle_more c.args.list.now.leaf.now c.args.list.now.moves.now states c.places.place (get_or c.args.list.now.moves.now c.places.place 0) c.move_at-t.result (step_is c.args.list.now.moves.now c.places.place c.places-test.true) c.move_at-t.ensures before.1 made.1);
 }
 
 pub returns-clause-found : goal.returns-clause-found
 returns-clause-found c = λ states are.
     let before = c.places.invariant.idle states are in
-    (before.0, idle_all c.args.leaf.now c.args.moves.now states c.places.place (let l : length c.args.moves.now ≤ c.places.place = omega (arith, c.places-test.false) in l) before.1)
+    (before.0, idle_all c.args.list.now.leaf.now c.args.list.now.moves.now states c.places.place (let l : length c.args.list.now.moves.now ≤ c.places.place = omega (arith, c.places-test.false) in l) before.1)

@@ -6,8 +6,8 @@ use Rattle.pop_settle.proofs.settling.next_take.Given as goal
 abbrev pub invariant-places : goal.invariant-places
 invariant-places l = record {
   count : length l.groups.groups.items ≡ length l.fn.groups.groups.items;
-  idle : (states : List ℕ) → AreGroups states l.fn.groups.groups.items → AreGroups states l.groups.groups.items × ((k : ℕ) → k < l.place → IsIdle l.leaf l.moves states k);
+  idle : (states : List ℕ) → AreGroups states l.fn.groups.groups.items → AreGroups states l.groups.groups.items × ((k : ℕ) → k < l.place → IsIdle l.list.leaf.now l.list.moves.now states k);
 }
 
 abbrev pub decreases-places : goal.decreases-places
-decreases-places l = length l.moves - l.place
+decreases-places l = length l.list.moves.now - l.place

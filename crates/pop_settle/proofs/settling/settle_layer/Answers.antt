@@ -14,27 +14,27 @@ use Rattle.pop_settle.proofs.Walking.{valid_ranges, walk_one, walk_join}
 use Rattle.pop_settle.proofs.settling.settle_layer.Goals.{In-Some, In_ok-make, After-as_slice-moves, After-drop-ends-2}
 use Rattle.pop_settle.proofs.settling.settle_layer.Goals as goal
 
-at : (c : After-as_slice-moves) → AtLayer c.args.net.now c.args.proof.now c.args.place.number c.args.layer.now c.leaf-leaf.result.now c.args.place.leaf
+at : (c : After-as_slice-moves) → AtLayer c.args.by.now.net.now c.args.by.now.proof.now c.args.place.now.number c.args.place.now.layer.now c.leaf-leaf.result.now c.args.place.now.leaf
 at c =
-    at_layer c.args.net.now c.args.proof.now c.args.place.leaf c.args.place.number c.args.layer.now c.leaf-leaf.result.now c.requires.layers.layers c.leaf-leaf.ensures c.requires.layer_is
+    at_layer c.args.by.now.net.now c.args.by.now.proof.now c.args.place.now.leaf c.args.place.now.number c.args.place.now.layer.now c.leaf-leaf.result.now c.requires.layers.layers c.leaf-leaf.ensures c.requires.layer_is
 
-pub next_take-requires-clause-in_range : goal.next_take-requires-clause-in_range
-next_take-requires-clause-in_range c =
-    rw c.as_slice-moves.ensures (moves_in c.args.net.now c.args.proof.now c.args.place.leaf c.args.place.number c.args.layer.now c.leaf-leaf.result.now (at (goal.at.next_take-requires-clause-in_range c).After-as_slice-moves))
+pub invariant_of-list-clause-in_range : goal.invariant_of-list-clause-in_range
+invariant_of-list-clause-in_range c =
+    rw c.as_slice-moves.ensures (moves_in c.args.by.now.net.now c.args.by.now.proof.now c.args.place.now.leaf c.args.place.now.number c.args.place.now.layer.now c.leaf-leaf.result.now (at (goal.at.invariant_of-list-clause-in_range c).After-as_slice-moves))
 
 pub run_ends-requires : goal.run_ends-requires
 run_ends-requires c =
-    rw c.as_slice-moves.ensures (moves_in c.args.net.now c.args.proof.now c.args.place.leaf c.args.place.number c.args.layer.now c.leaf-leaf.result.now (at (goal.at.run_ends-requires c).After-as_slice-moves))
+    rw c.as_slice-moves.ensures (moves_in c.args.by.now.net.now c.args.by.now.proof.now c.args.place.now.leaf c.args.place.now.number c.args.place.now.layer.now c.leaf-leaf.result.now (at (goal.at.run_ends-requires c).After-as_slice-moves))
 
-pub next_take-requires-clause-formed : goal.next_take-requires-clause-formed
-next_take-requires-clause-formed c =
-    All-slice_get IsLeaf c.args.net.now.leaves c.args.place.leaf c.leaf-leaf.result.now c.requires.formed.leaves c.leaf-leaf.ensures
+pub invariant_of-list-clause-formed : goal.invariant_of-list-clause-formed
+invariant_of-list-clause-formed c =
+    All-slice_get IsLeaf c.args.by.now.net.now.leaves c.args.place.now.leaf c.leaf-leaf.result.now c.requires.formed.leaves c.leaf-leaf.ensures
 
 -- the take that was found
-found : (c : In-Some) → FindsTake c.leaf-leaf.result.now c.args.place.leaf c.args.layer.now.moves (states_in c.args.place.leaf (crowd_of c.args.net.now c.takes.walk.words.items)) (Some c.in-Some.take) c.next_take.new.groups.groups.items
+found : (c : In-Some) → FindsTake c.leaf-leaf.result.now c.args.place.now.leaf c.args.place.now.layer.now.moves (states_in c.args.place.now.leaf (crowd_of c.args.by.now.net.now c.takes.walk.words.items)) (Some c.in-Some.take) c.next_take.new.groups.groups.items
 found c =
-    found_some c.leaf-leaf.result.now c.args.place.leaf c.as_slice-moves.result.now c.args.layer.now.moves _ c.in_ok-take.field-0 c.next_take.new.groups.groups.items c.in-Some.take c.as_slice-moves.ensures c.in-Some.is
-    (c.in_ok-take.ensures.found (states_in c.args.place.leaf (crowd_of c.args.net.now c.takes.walk.words.items)) c.takes.invariant.grouped)
+    found_some c.leaf-leaf.result.now c.args.place.now.leaf c.as_slice-moves.result.now c.args.place.now.layer.now.moves _ c.in_ok-take.field-0 c.next_take.new.groups.groups.items c.in-Some.take c.as_slice-moves.ensures c.in-Some.is
+    (c.in_ok-take.ensures.found (states_in c.args.place.now.leaf (crowd_of c.args.by.now.net.now c.takes.walk.words.items)) c.takes.invariant.grouped)
 
 pub make-requires-clause-leaf_in : goal.make-requires-clause-leaf_in
 make-requires-clause-leaf_in c =
@@ -52,24 +52,24 @@ make-requires-clause-different c = (found (goal.at.make-requires-clause-differen
 pub make-requires-clause-first_in : goal.make-requires-clause-first_in
 make-requires-clause-first_in c =
     let f = found (goal.at.make-requires-clause-first_in c).In-Some in
-    let crowd = crowd_of c.args.net.now c.takes.walk.words.items in
-    omega (arith, agent_in c.args.place.leaf crowd c.in-Some.take.a f.1.move.p f.1.least.0.first, length-map c.takes.walk.words.items (tuple_of c.args.net.now))
+    let crowd = crowd_of c.args.by.now.net.now c.takes.walk.words.items in
+    omega (arith, agent_in c.args.place.now.leaf crowd c.in-Some.take.a f.1.move.p f.1.least.0.first, length-map c.takes.walk.words.items (tuple_of c.args.by.now.net.now))
 
 pub make-requires-clause-second_in : goal.make-requires-clause-second_in
 make-requires-clause-second_in c =
     let f = found (goal.at.make-requires-clause-second_in c).In-Some in
-    let crowd = crowd_of c.args.net.now c.takes.walk.words.items in
-    omega (arith, agent_in c.args.place.leaf crowd c.in-Some.take.b f.1.move.q f.1.least.0.second, length-map c.takes.walk.words.items (tuple_of c.args.net.now))
+    let crowd = crowd_of c.args.by.now.net.now c.takes.walk.words.items in
+    omega (arith, agent_in c.args.place.now.leaf crowd c.in-Some.take.b f.1.move.q f.1.least.0.second, length-map c.takes.walk.words.items (tuple_of c.args.by.now.net.now))
 
 -- what the take makes of the crowd
-made : (c : In_ok-make) → Advanced c.args.net.now c.args.proof.now c.args.place.number c.args.layer.now c.leaf-leaf.result.now (crowd_of c.args.net.now c.takes.walk.words.items) c.in-Some.take c.next_take.new.groups.groups.items (crowd_of c.args.net.now c.make.new.self.words.items) c.args.place.leaf
+made : (c : In_ok-make) → Advanced c.args.by.now.net.now c.args.by.now.proof.now c.args.place.now.number c.args.place.now.layer.now c.leaf-leaf.result.now (crowd_of c.args.by.now.net.now c.takes.walk.words.items) c.in-Some.take c.next_take.new.groups.groups.items (crowd_of c.args.by.now.net.now c.make.new.self.words.items) c.args.place.now.leaf
 made c =
-    advanced c.args.net.now c.args.proof.now c.args.place.number c.args.layer.now c.leaf-leaf.result.now (crowd_of c.args.net.now c.takes.walk.words.items) c.in-Some.take c.next_take.new.groups.groups.items c.args.place.leaf (crowd_of c.args.net.now c.make.new.self.words.items)
-    c.requires.formed.leaves (valid_ranges c.args.net.now c.takes.walk.words.items c.takes.invariant.walked.valid)
-    (at_layer c.args.net.now c.args.proof.now c.args.place.leaf c.args.place.number c.args.layer.now c.leaf-leaf.result.now c.requires.layers.layers c.leaf-leaf.ensures c.requires.layer_is)
+    advanced c.args.by.now.net.now c.args.by.now.proof.now c.args.place.now.number c.args.place.now.layer.now c.leaf-leaf.result.now (crowd_of c.args.by.now.net.now c.takes.walk.words.items) c.in-Some.take c.next_take.new.groups.groups.items c.args.place.now.leaf (crowd_of c.args.by.now.net.now c.make.new.self.words.items)
+    c.requires.formed.leaves (valid_ranges c.args.by.now.net.now c.takes.walk.words.items c.takes.invariant.walked.valid)
+    (at_layer c.args.by.now.net.now c.args.by.now.proof.now c.args.place.now.leaf c.args.place.now.number c.args.place.now.layer.now c.leaf-leaf.result.now c.requires.layers.layers c.leaf-leaf.ensures c.requires.layer_is)
     c.takes.invariant.quiet
-    (found_some c.leaf-leaf.result.now c.args.place.leaf c.as_slice-moves.result.now c.args.layer.now.moves _ c.in_ok-take.field-0 c.next_take.new.groups.groups.items c.in-Some.take c.as_slice-moves.ensures c.in-Some.is
-    (c.in_ok-take.ensures.found (states_in c.args.place.leaf (crowd_of c.args.net.now c.takes.walk.words.items)) c.takes.invariant.grouped))
+    (found_some c.leaf-leaf.result.now c.args.place.now.leaf c.as_slice-moves.result.now c.args.place.now.layer.now.moves _ c.in_ok-take.field-0 c.next_take.new.groups.groups.items c.in-Some.take c.as_slice-moves.ensures c.in-Some.is
+    (c.in_ok-take.ensures.found (states_in c.args.place.now.leaf (crowd_of c.args.by.now.net.now c.takes.walk.words.items)) c.takes.invariant.grouped))
     c.in_ok-make.ensures.taken
 
 pub takes-smaller : goal.takes-smaller
@@ -79,23 +79,23 @@ pub takes-preserved : goal.takes-preserved
 takes-preserved c =
     let m = made c in
     record {
-      walked = walk_join c.args.net.now c.args.proof.now c.args.walk.now c.takes.walk c.make.new.self c.takes.invariant.walked
-          (walk_one c.args.net.now c.args.proof.now c.takes.walk c.make.new.self c.in-Some.take m.next c.in_ok-make.ensures.taken c.in_ok-make.ensures.takes c.make.ensures.valid c.make.ensures.agents);
+      walked = walk_join c.args.by.now.net.now c.args.by.now.proof.now c.args.walk.now c.takes.walk c.make.new.self c.takes.invariant.walked
+          (walk_one c.args.by.now.net.now c.args.by.now.proof.now c.takes.walk c.make.new.self c.in-Some.take m.next c.in_ok-make.ensures.taken c.in_ok-make.ensures.takes c.make.ensures.valid c.make.ensures.agents);
       count = c.next_take.ensures.count ∙ c.takes.invariant.count;
       grouped = m.grouped;
       quiet = m.quiet;
     }
 
 -- no take was found
-none : (c : After-drop-ends-2) → FindsTake c.leaf-leaf.result.now c.args.place.leaf c.args.layer.now.moves (states_in c.args.place.leaf (crowd_of c.args.net.now c.takes.walk.words.items)) None c.next_take.new.groups.groups.items
+none : (c : After-drop-ends-2) → FindsTake c.leaf-leaf.result.now c.args.place.now.leaf c.args.place.now.layer.now.moves (states_in c.args.place.now.leaf (crowd_of c.args.by.now.net.now c.takes.walk.words.items)) None c.next_take.new.groups.groups.items
 none c =
-    found_none c.leaf-leaf.result.now c.args.place.leaf c.as_slice-moves.result.now c.args.layer.now.moves _ c.in_ok-take.field-0 c.next_take.new.groups.groups.items c.as_slice-moves.ensures c.in_default.is
-    (c.in_ok-take.ensures.found (states_in c.args.place.leaf (crowd_of c.args.net.now c.takes.walk.words.items)) c.takes.invariant.grouped)
+    found_none c.leaf-leaf.result.now c.args.place.now.leaf c.as_slice-moves.result.now c.args.place.now.layer.now.moves _ c.in_ok-take.field-0 c.next_take.new.groups.groups.items c.as_slice-moves.ensures c.in_default.is
+    (c.in_ok-take.ensures.found (states_in c.args.place.now.leaf (crowd_of c.args.by.now.net.now c.takes.walk.words.items)) c.takes.invariant.grouped)
 
 pub returns-clause-grouped : goal.returns-clause-grouped
 returns-clause-grouped c = (none c).0
 
 pub returns-clause-quiet : goal.returns-clause-quiet
 returns-clause-quiet c =
-    let a = at_layer c.args.net.now c.args.proof.now c.args.place.leaf c.args.place.number c.args.layer.now c.leaf-leaf.result.now c.requires.layers.layers c.leaf-leaf.ensures c.requires.layer_is in
-    quiet_layer c.args.net.now c.args.proof.now (crowd_of c.args.net.now c.takes.walk.words.items) c.args.place.leaf c.args.place.number c.leaf-leaf.result.now a.part c.args.layer.now a.leaf_is a.part_is a.layer_is c.takes.invariant.quiet (none c).1
+    let a = at_layer c.args.by.now.net.now c.args.by.now.proof.now c.args.place.now.leaf c.args.place.now.number c.args.place.now.layer.now c.leaf-leaf.result.now c.requires.layers.layers c.leaf-leaf.ensures c.requires.layer_is in
+    quiet_layer c.args.by.now.net.now c.args.by.now.proof.now (crowd_of c.args.by.now.net.now c.takes.walk.words.items) c.args.place.now.leaf c.args.place.now.number c.leaf-leaf.result.now a.part c.args.place.now.layer.now a.leaf_is a.part_is a.layer_is c.takes.invariant.quiet (none c).1

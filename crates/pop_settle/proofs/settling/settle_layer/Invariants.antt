@@ -8,11 +8,11 @@ use Rattle.pop_settle.proofs.settling.settle_layer.Given as goal
 
 abbrev pub invariant-takes : goal.invariant-takes
 invariant-takes l = record {
-  walked : WalksOn l.net l.proof l.fn.walk l.walk;
+  walked : WalksOn l.by.net.now l.by.proof.now l.fn.walk l.walk;
   count : length l.groups.groups.items ≡ length l.fn.groups.groups.items;
-  grouped : AreGroups (states_in l.place.leaf (crowd_of l.net l.walk.words.items)) l.groups.groups.items;
-  quiet : IsQuietBefore l.net l.proof (crowd_of l.net l.walk.words.items) l.place.leaf l.place.number;
+  grouped : AreGroups (states_in l.place.leaf (crowd_of l.by.net.now l.walk.words.items)) l.groups.groups.items;
+  quiet : IsQuietBefore l.by.net.now l.by.proof.now (crowd_of l.by.net.now l.walk.words.items) l.place.leaf l.place.number;
 }
 
 abbrev pub decreases-takes : goal.decreases-takes
-decreases-takes l = fuel l.layer.weights (states_in l.place.leaf (crowd_of l.net l.walk.words.items))
+decreases-takes l = fuel l.place.layer.now.weights (states_in l.place.leaf (crowd_of l.by.net.now l.walk.words.items))

@@ -12,9 +12,9 @@ use Rattle.pop_settle.proofs.settling.settle_leaf.Goals as goal
 
 pub loop-number-preserved : goal.loop-number-preserved
 loop-number-preserved c =
-    let h = slice_get-get_or c.args.net.now.leaves c.args.leaf nothing c.requires.leaf_in in
+    let h = slice_get-get_or c.args.by.now.net.now.leaves c.args.leaf nothing c.requires.leaf_in in
     record {
-      walked = walk_join c.args.net.now c.args.proof.now c.args.walk.now c.loop-number.walk c.settle_layer.new.walk c.loop-number.invariant.walked c.in_ok-settle_layer.ensures.walked;
+      walked = walk_join c.args.by.now.net.now c.args.by.now.proof.now c.args.walk.now c.loop-number.walk c.settle_layer.new.walk c.loop-number.invariant.walked c.in_ok-settle_layer.ensures.walked;
       count = subst (λ (o : Option LeafModel). IfSome o (λ leaf. length c.settle_layer.new.groups.groups.items ≡ length leaf.states)) (sym h)
           (c.settle_layer.ensures.count ∙ subst (λ (o : Option LeafModel). IfSome o (λ leaf. length c.loop-number.groups.groups.items ≡ length leaf.states)) h c.loop-number.invariant.count);
       grouped = c.in_ok-settle_layer.ensures.grouped;
@@ -23,11 +23,11 @@ loop-number-preserved c =
 
 pub returns-clause-quiet : goal.returns-clause-quiet
 returns-clause-quiet c =
-    let parts = c.args.proof.now.leaves in
+    let parts = c.args.by.now.proof.now.leaves in
     let part = c.index-as_slice-leaf.result in
     let l : c.args.leaf < length parts = omega (arith, c.requires.leaf_in, c.requires.layers.layers.one_each) in
     let at : slice_get parts c.args.leaf ≡ Some part = slice_get-get_or parts c.args.leaf part l ∙ ap Some (ap (λ (ps : List LeafProof). get_or ps c.args.leaf part) (sym c.as_slice-2.ensures) ∙ sym c.index-as_slice-leaf.is) in
-    quiet_leaf c.args.net.now c.args.proof.now (crowd_of c.args.net.now c.loop-number.walk.words.items) c.args.leaf part at
-    (subst (λ (n : ℕ). IsQuietBefore c.args.net.now c.args.proof.now (crowd_of c.args.net.now c.loop-number.walk.words.items) c.args.leaf n)
+    quiet_leaf c.args.by.now.net.now c.args.by.now.proof.now (crowd_of c.args.by.now.net.now c.loop-number.walk.words.items) c.args.leaf part at
+    (subst (λ (n : ℕ). IsQuietBefore c.args.by.now.net.now c.args.by.now.proof.now (crowd_of c.args.by.now.net.now c.loop-number.walk.words.items) c.args.leaf n)
     (let e : c.loop-number.number ≡ length part.layers = omega (arith, c.loop-number-test.false, c.loop-number.auto.number-end, ap length c.as_slice-layer-items.ensures) in e)
     c.loop-number.invariant.quiet)

@@ -4,6 +4,6 @@ use Rattle.pop_settle.proofs.settling.settle_leaves.Given as goal
 
 abbrev pub invariant-loop-leaf : goal.invariant-loop-leaf
 invariant-loop-leaf l = record {
-  walked : WalksOn l.net l.proof l.fn.walk l.walk;
-  quiet : IsQuietBefore l.net l.proof (crowd_of l.net l.walk.words.items) l.leaf 0;
+  walked : WalksOn l.by.net.now l.by.proof.now l.fn.walk l.walk;
+  quiet : IsQuietBefore l.by.net.now l.by.proof.now (crowd_of l.by.net.now l.walk.words.items) l.leaf 0;
 }
