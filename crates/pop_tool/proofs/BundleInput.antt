@@ -13,12 +13,12 @@ use Rattle.pop_checker.specs.Sound.{IsRight}
 use Rattle.pop_checker.proofs.RightEnds.{sound}
 use Rattle.tool_texts.specs.Steps.{◌>>=◌}
 use Rattle.tool_texts.proofs.Goes.{bind_ok, same_ok}
-use Rattle.tool_commands.specs.Start.{fitting_in}
-use Rattle.tool_commands.proofs.Begun.{begun_two}
-use Rattle.tool_commands.specs.declared.bundle.AnyBundle.{AnyBundle}
-use Rattle.tool_commands.specs.declared.bundle.AnyBundle.TheVariants.{Plain, Stable}
-use Rattle.tool_commands.specs.StableBundles.{any_bundle_in, net_of, any_begun, IsAnyBundleOf, IsAnyBegunBy}
-use Rattle.tool_commands.proofs.AnyBundles.{of_plain, of_stable, plain_value, stable_value}
+use Rattle.tool_bundles.specs.Start.{fitting_in}
+use Rattle.tool_bundles.proofs.Begun.{begun_two}
+use Rattle.tool_bundles.specs.declared.bundle.AnyBundle.{AnyBundle}
+use Rattle.tool_bundles.specs.declared.bundle.AnyBundle.TheVariants.{Plain, Stable}
+use Rattle.tool_bundles.specs.StableBundles.{any_bundle_in, net_of, any_begun, IsAnyBundleOf, IsAnyBegunBy}
+use Rattle.tool_bundles.proofs.AnyBundles.{of_plain, of_stable, plain_value, stable_value}
 use Rattle.goal_json.specs.declared.bundle.StableBundle.{StableBundle}
 use Rattle.goal_json.proofs.StableLaws.{bundle_takes as stable_takes, bundle_again as stable_again}
 use Rattle.goal_json.proofs.WithoutGoals.{file_without}

@@ -23,12 +23,12 @@ use Rattle.tool_texts.proofs.OneValue.{one_value}
 use Rattle.goal_json.proofs.WithoutGoals.{file_without}
 use Rattle.goal_checker.specs.declared.fault.StableRejected.{StableRejected}
 use Rattle.goal_json.specs.declared.bundle.StableBundle.{StableBundle}
-use Rattle.tool_commands.specs.declared.bundle.AnyBundle.{AnyBundle}
-use Rattle.tool_commands.specs.declared.bundle.AnyBundle.TheVariants.{Plain, Stable}
-use Rattle.tool_commands.specs.Bundles.{IsJudged}
-use Rattle.tool_commands.specs.StableBundles.{any_bundle_in, IsAnyBundleOf}
-use Rattle.tool_commands.specs.Check.{certified_text, judgement, stable_judgement, OfBundle, OfAnyBundle, OfLine, CheckGives}
-use Rattle.tool_commands.proofs.AnyBundles.{of_plain, plain_value}
+use Rattle.tool_bundles.specs.declared.bundle.AnyBundle.{AnyBundle}
+use Rattle.tool_bundles.specs.declared.bundle.AnyBundle.TheVariants.{Plain, Stable}
+use Rattle.tool_bundles.specs.Bundles.{IsJudged}
+use Rattle.tool_bundles.specs.StableBundles.{any_bundle_in, IsAnyBundleOf}
+use Rattle.tool_proofs.specs.Check.{certified_text, judgement, stable_judgement, OfBundle, OfAnyBundle, OfLine, CheckGives}
+use Rattle.tool_bundles.proofs.AnyBundles.{of_plain, plain_value}
 use Rattle.pop_tool.specs.Answer.{InputGives}
 use Rattle.pop_tool.specs.Headline.{IsBundleLine, HasValidProof, CheckSays, IsValidLine}
 use Rattle.pop_tool.proofs.BundleInput.{file_right}

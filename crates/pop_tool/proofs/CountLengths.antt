@@ -11,8 +11,8 @@ use Rattle.pop_words.specs.Counts.{entry_of, with_entry, with_word, with_words, 
 use Rattle.tool_texts.specs.declared.refusal.Refusal.{Refusal}
 use Rattle.tool_texts.specs.declared.refusal.Refusal.TheVariants.{Size}
 use Rattle.tool_texts.proofs.Goes.{bind_ok, same_ok}
-use Rattle.tool_commands.specs.Eval.{counted}
-use Rattle.tool_commands.specs.Start.{is_size, sized, fitting_in}
+use Rattle.tool_bundles.specs.Named.{counted}
+use Rattle.tool_bundles.specs.Start.{is_size, sized, fitting_in}
 
 entry_long : (found : List (Option ℕ)) (entry : ℕ × ℕ) (more : List (Option ℕ)) → with_entry found entry ≡ Some more → length more ≡ length found
 entry_long found entry more e = go (is_some (slice_index_or found entry.0 None)) e

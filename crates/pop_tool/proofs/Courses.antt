@@ -25,14 +25,14 @@ use Rattle.pop_journal.proofs.Looks.{common_some}
 use Rattle.pop_journal.proofs.RunKinds.{is_watched_until}
 use Rattle.goal_settle.specs.Chosen.{proof_at}
 use Rattle.goal_settle.proofs.HushedLeaves.{states_listed}
-use Rattle.tool_commands.specs.declared.bundle.AnyBundle.{AnyBundle}
-use Rattle.tool_commands.specs.declared.bundle.AnyBundle.TheVariants.{Plain, Stable}
-use Rattle.tool_commands.specs.StableBundles.{IsAnyBegunBy, IsAnyJudged}
-use Rattle.tool_commands.specs.Course.{Course, course_of}
-use Rattle.tool_commands.proofs.Begun.{begun_two, begun_few}
-use Rattle.tool_commands.proofs.InputSize.{length-input_crowd}
-use Rattle.tool_commands.proofs.ProvedBundles.{course_net}
-use Rattle.tool_commands.proofs.Ran.{run_reaches, run_tuples}
+use Rattle.tool_bundles.specs.declared.bundle.AnyBundle.{AnyBundle}
+use Rattle.tool_bundles.specs.declared.bundle.AnyBundle.TheVariants.{Plain, Stable}
+use Rattle.tool_bundles.specs.StableBundles.{IsAnyBegunBy, IsAnyJudged}
+use Rattle.tool_runs.specs.Course.{Course, course_of}
+use Rattle.tool_bundles.proofs.Begun.{begun_two, begun_few}
+use Rattle.tool_bundles.proofs.InputSize.{length-input_crowd}
+use Rattle.tool_runs.proofs.ProvedBundles.{course_net}
+use Rattle.tool_runs.proofs.Ran.{run_reaches, run_tuples}
 use Rattle.pop_tool.specs.Runs.{IsLastLine}
 use Rattle.pop_tool.proofs.BundleInput.{plain_input, any_counts, file_computes}
 use Rattle.pop_tool.proofs.LastLine.{is_last, only_last}

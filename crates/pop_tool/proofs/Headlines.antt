@@ -20,11 +20,11 @@ use Rattle.tool_texts.specs.declared.status.Status.{Status}
 use Rattle.tool_texts.specs.declared.status.Status.TheVariants.{Done, Usage, Refused, Rejected, Undecided, Differs, ReadFault, WriteFault, NoMemory}
 use Rattle.tool_texts.specs.Statuses.{status_of}
 use Rattle.tool_texts.specs.Refusals.{output_for}
-use Rattle.tool_commands.specs.Check.{certified_text, stable_text}
+use Rattle.tool_proofs.specs.Check.{certified_text, stable_text}
 use Rattle.goal_json.specs.declared.bundle.StableBundle.{StableBundle}
 use Rattle.pop_tool.specs.StableHeadline.{IsStableLine, StableSays, IsValidStableLine, SettledSays, StableRunSays, IsStableHeldInput}
 use Rattle.pop_tool.proofs.StableHeadline.{stable_says, stable_only}
-use Rattle.tool_commands.specs.Replay.{holds_text, holds_output}
+use Rattle.tool_runs.specs.Replay.{holds_text, holds_output}
 use Rattle.pop_tool.specs.Answer.{InputGives, Answer}
 use Rattle.pop_tool.specs.Outcome.{HasLeft, Wrote, Outcome}
 use Rattle.comp_net.specs.declared.choice.LeafChoice.TheVariants as leaves

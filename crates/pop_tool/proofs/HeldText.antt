@@ -20,12 +20,12 @@ use Rattle.pop_journal.specs.Form.{journal_in}
 use Rattle.pop_journal.specs.Laws.{IsRunReadBackUntil}
 use Rattle.pop_journal.specs.Rounds.{AreRoundsOf}
 use Rattle.pop_journal.proofs.Written.{journal_form, written_is_held_until, cut_until}
-use Rattle.tool_commands.specs.declared.bundle.AnyBundle.{AnyBundle}
-use Rattle.tool_commands.specs.declared.bundle.AnyBundle.TheVariants.{Plain, Stable}
-use Rattle.tool_commands.specs.StableBundles.{IsAnyBegunBy, IsAnyJudged}
-use Rattle.tool_commands.specs.Course.{Course, course_of}
-use Rattle.tool_commands.specs.declared.replay.TheConstants.{JOURNAL_LINE}
-use Rattle.tool_commands.specs.Replay.{journal_read}
+use Rattle.tool_bundles.specs.declared.bundle.AnyBundle.{AnyBundle}
+use Rattle.tool_bundles.specs.declared.bundle.AnyBundle.TheVariants.{Plain, Stable}
+use Rattle.tool_bundles.specs.StableBundles.{IsAnyBegunBy, IsAnyJudged}
+use Rattle.tool_runs.specs.Course.{Course, course_of}
+use Rattle.tool_runs.specs.declared.replay.TheConstants.{JOURNAL_LINE}
+use Rattle.tool_runs.specs.Replay.{journal_read}
 use Rattle.pop_io.specs.declared.whole.TheConstants.{INPUT_LIMIT}
 use Rattle.pop_tool.specs.Runs.{IsLastLine, IsAllowedRun}
 use Rattle.pop_tool.specs.Headline.{IsHeldInput}

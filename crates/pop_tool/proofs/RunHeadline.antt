@@ -32,12 +32,12 @@ use Rattle.tool_texts.specs.Statuses.{status_of}
 use Rattle.tool_texts.specs.Steps.{After}
 use Rattle.tool_texts.specs.Lines.{just_two}
 use Rattle.tool_texts.specs.Refusals.{output_for}
-use Rattle.tool_commands.specs.declared.bundle.AnyBundle.{AnyBundle}
-use Rattle.tool_commands.specs.declared.bundle.AnyBundle.TheVariants.{Plain, Stable}
-use Rattle.tool_commands.specs.StableBundles.{IsAnyBegunBy, IsAnyJudged}
-use Rattle.tool_commands.specs.Course.{course_of}
-use Rattle.tool_commands.specs.Play.{IsLast}
-use Rattle.tool_commands.specs.Run.{journal_end, run_ending, IsRunOutput, OfJudged, OfBegun, OfLines, RunGives}
+use Rattle.tool_bundles.specs.declared.bundle.AnyBundle.{AnyBundle}
+use Rattle.tool_bundles.specs.declared.bundle.AnyBundle.TheVariants.{Plain, Stable}
+use Rattle.tool_bundles.specs.StableBundles.{IsAnyBegunBy, IsAnyJudged}
+use Rattle.tool_runs.specs.Course.{course_of}
+use Rattle.tool_bundles.specs.LastPair.{IsLast}
+use Rattle.tool_runs.specs.Run.{journal_end, run_ending, IsRunOutput, OfJudged, OfBegun, OfLines, RunGives}
 use Rattle.pop_tool.specs.Answer.{InputGives}
 use Rattle.pop_tool.specs.Runs.{IsLastLine}
 use Rattle.pop_tool.specs.StableHeadline.{HasValidGoals, StableRunSays}

@@ -23,12 +23,12 @@ use Rattle.goal_checker.specs.declared.fault.StableRejected.{StableRejected}
 use Rattle.goal_checker.proofs.StableSound.{stable_sound}
 use Rattle.goal_settle.specs.Chosen.{proof_at}
 use Rattle.goal_settle.proofs.Rests.{settlement_right}
-use Rattle.tool_commands.specs.declared.bundle.AnyBundle.{AnyBundle}
-use Rattle.tool_commands.specs.declared.bundle.AnyBundle.TheVariants.{Plain, Stable}
-use Rattle.tool_commands.specs.Bundles.{IsJudged}
-use Rattle.tool_commands.specs.StableBundles.{IsAnyBegunBy, IsStableJudged}
-use Rattle.tool_commands.specs.Settle.{takes_allowed, IsSettled, OfJudged, OfLines, SettleGives}
-use Rattle.tool_commands.specs.Settle.{goal_takes_allowed, IsSettledByGoals, OfGoalsJudged, OfAnyBegun}
+use Rattle.tool_bundles.specs.declared.bundle.AnyBundle.{AnyBundle}
+use Rattle.tool_bundles.specs.declared.bundle.AnyBundle.TheVariants.{Plain, Stable}
+use Rattle.tool_bundles.specs.Bundles.{IsJudged}
+use Rattle.tool_bundles.specs.StableBundles.{IsAnyBegunBy, IsStableJudged}
+use Rattle.tool_proofs.specs.Settle.{takes_allowed, IsSettled, OfJudged, OfLines, SettleGives}
+use Rattle.tool_proofs.specs.Settle.{goal_takes_allowed, IsSettledByGoals, OfGoalsJudged, OfAnyBegun}
 use Rattle.pop_tool.specs.Answer.{InputGives}
 use Rattle.pop_tool.specs.Headline.{IsBundleInput, SettleSays}
 use Rattle.pop_tool.specs.StableHeadline.{IsStableInput, SettledSays}

@@ -23,11 +23,11 @@ use Rattle.tool_texts.specs.Steps.{After}
 use Rattle.tool_texts.specs.Lines.{just_one}
 use Rattle.tool_texts.specs.Refusals.{refusal_text, output_for}
 use Rattle.tool_texts.proofs.OneValue.{one_value}
-use Rattle.tool_commands.specs.declared.bundle.AnyBundle.{AnyBundle}
-use Rattle.tool_commands.specs.declared.bundle.AnyBundle.TheVariants.{Plain, Stable}
-use Rattle.tool_commands.specs.StableBundles.{any_bundle_in, IsAnyBundleOf, IsStableJudged}
-use Rattle.tool_commands.specs.Check.{stable_text, judgement, stable_judgement, OfStableBundle, OfAnyBundle, OfLine, CheckGives}
-use Rattle.tool_commands.proofs.AnyBundles.{of_stable, stable_value}
+use Rattle.tool_bundles.specs.declared.bundle.AnyBundle.{AnyBundle}
+use Rattle.tool_bundles.specs.declared.bundle.AnyBundle.TheVariants.{Plain, Stable}
+use Rattle.tool_bundles.specs.StableBundles.{any_bundle_in, IsAnyBundleOf, IsStableJudged}
+use Rattle.tool_proofs.specs.Check.{stable_text, judgement, stable_judgement, OfStableBundle, OfAnyBundle, OfLine, CheckGives}
+use Rattle.tool_bundles.proofs.AnyBundles.{of_stable, stable_value}
 use Rattle.pop_tool.specs.Answer.{InputGives}
 use Rattle.pop_tool.specs.StableHeadline.{IsStableLine, HasValidGoals, StableSays, IsValidStableLine}
 use Rattle.pop_tool.proofs.FirstBytes.{first_byte, refusal_begins, rejection_begins, stable_rejection_begins}

@@ -36,14 +36,14 @@ use Rattle.pop_checker.specs.Sound.{IsRight}
 use Rattle.tool_texts.specs.declared.status.Status.{Status}
 use Rattle.tool_texts.specs.declared.status.Status.TheVariants.{Done, Undecided}
 use Rattle.tool_texts.specs.Json.{HasValue}
-use Rattle.tool_commands.specs.Start.{fitting_in}
-use Rattle.tool_commands.specs.Check.{certified_text, stable_text}
-use Rattle.tool_commands.specs.Show.{shown_text}
-use Rattle.tool_commands.specs.Replay.{holds_text}
+use Rattle.tool_bundles.specs.Start.{fitting_in}
+use Rattle.tool_proofs.specs.Check.{certified_text, stable_text}
+use Rattle.tool_proofs.specs.Show.{shown_text}
+use Rattle.tool_runs.specs.Replay.{holds_text}
 use Rattle.comp_net.specs.declared.choice.LeafChoice.{LeafChoice}
 use Rattle.comp_net.specs.declared.choice.LeafChoice.TheVariants as leaves
-use Rattle.tool_commands.specs.Settle.{settle_text}
-use Rattle.tool_commands.specs.Compile.{bundle_line, IsCompiled}
+use Rattle.tool_proofs.specs.Settle.{settle_text}
+use Rattle.tool_proofs.specs.Compile.{bundle_line, IsCompiled}
 use Rattle.pop_tool.specs.Outcome.{IsAnswered}
 use Rattle.pop_tool.specs.Runs.{IsLastLine, IsAllowedRun}
 use Rattle.pop_tool.specs.StableHeadline.{IsStableLine, StableSays, IsValidStableLine, SettledSays}

@@ -8,8 +8,8 @@ use Rattle.goal_json.specs.StableFile.{has_goals}
 use Rattle.tool_texts.specs.declared.output.Output.{Output}
 use Rattle.tool_texts.specs.declared.output.Ending.TheVariants.{Done}
 use Rattle.tool_texts.specs.Json.{HasValue}
-use Rattle.tool_commands.specs.Check.{certified_output}
-use Rattle.tool_commands.specs.Show.{shown_output}
+use Rattle.tool_proofs.specs.Check.{certified_output}
+use Rattle.tool_proofs.specs.Show.{shown_output}
 use Rattle.pop_tool.specs.Answer.{Answer}
 use Rattle.pop_tool.specs.Headline.{IsBundleLine, HasValidProof}
 

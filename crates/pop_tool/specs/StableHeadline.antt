@@ -28,9 +28,9 @@ use Rattle.goal_settle.specs.Resting.{resting_net, IsResting}
 use Rattle.tool_texts.specs.declared.status.Status.{Status}
 use Rattle.tool_texts.specs.declared.status.Status.TheVariants.{Done, Undecided}
 use Rattle.tool_texts.specs.Json.{HasValue}
-use Rattle.tool_commands.specs.Start.{fitting_in}
-use Rattle.tool_commands.specs.Check.{stable_text}
-use Rattle.tool_commands.specs.Settle.{goals_text}
+use Rattle.tool_bundles.specs.Start.{fitting_in}
+use Rattle.tool_proofs.specs.Check.{stable_text}
+use Rattle.tool_proofs.specs.Settle.{goals_text}
 use Rattle.pop_tool.specs.Runs.{IsLastLine, IsAllowedRun}
 
 -- the input, within its limit, is one line, which is the file of this bundle, of which some leaf has goals

@@ -1,5 +1,5 @@
 -- The table of commands.
-use Rattle.std.specs.Prelude.{◌≡◌, ℕ, Bool, true, false, List, Result}
+use Rattle.std.specs.Prelude.{◌≡◌, ℕ, Bool, true, false, List, Result, Ok, Err}
 use Rattle.pop_words.specs.declared.command.Command.{Command}
 use Rattle.pop_words.specs.declared.command.Command.TheVariants.{Play, Eval, Check, Run, Watch, Replay, ReplayWatched}
 use Rattle.pop_words.specs.declared.command.Command.TheVariants.{Settle, Compile, Flocks, Demo}
@@ -7,16 +7,19 @@ use Rattle.pop_words.specs.declared.command.Command.TheVariants.{Show, Succinct}
 use Rattle.pop_words.specs.declared.kind.RunKind.TheVariants.{Whole, Watched}
 use Rattle.tool_texts.specs.declared.refusal.Refusal.{Refusal}
 use Rattle.tool_texts.specs.declared.output.Output.{Output}
-use Rattle.tool_commands.specs.Eval.{eval_output}
-use Rattle.tool_commands.specs.Play.{PlayGives}
-use Rattle.tool_commands.specs.Check.{CheckGives}
-use Rattle.tool_commands.specs.Show.{ShowGives}
-use Rattle.tool_commands.specs.Run.{RunGives}
-use Rattle.tool_commands.specs.Replay.{ReplayGives}
+use Rattle.tool_texts.specs.Steps.{Stop}
+use Rattle.tool_proofs.specs.Eval.{eval_output}
+use Rattle.tool_proofs.specs.Play.{PlayGives}
+use Rattle.tool_proofs.specs.Check.{CheckGives}
+use Rattle.tool_proofs.specs.Show.{ShowGives}
+use Rattle.tool_runs.specs.Run.{RunGives}
+use Rattle.tool_runs.specs.Replay.{ReplayGives}
 use Rattle.comp_net.specs.declared.choice.LeafChoice.TheVariants as leaves
-use Rattle.tool_commands.specs.Settle.{SettleGives}
-use Rattle.tool_commands.specs.Compile.{CompileGives}
-use Rattle.tool_commands.specs.Demo.{DemoGives}
+use Rattle.tool_proofs.specs.Settle.{SettleGives}
+use Rattle.tool_proofs.specs.Compile.{CompileGives}
+use Rattle.tool_runs.specs.Demo.{DemoGives}
+use Rattle.tool_runs.specs.declared.prepared.Prepared.{Prepared}
+use Rattle.tool_runs.specs.declared.prepared.Prepared.TheVariants.{Text}
 
 -- what each gives for the lines of its input
 abbrev pub CommandGives : Command → List (List ℕ) → Result Output Refusal → Type 0
@@ -82,3 +85,8 @@ IsDetermined Compile = ⊥
 IsDetermined Flocks = ⊥
 IsDetermined Succinct = ⊥
 IsDetermined (Demo number) = Unit {0}
+
+-- what is prepared for an output, or a stop
+abbrev pub ready : Result Output Stop → Result Prepared Stop
+ready (Ok output) = Ok (Text output)
+ready (Err stop) = Err stop

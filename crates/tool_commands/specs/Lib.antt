@@ -1,16 +1,1 @@
-pub mod Eval
-pub mod Start
-pub mod Bundles
-pub mod StableBundles
-pub mod Check
-pub mod Show
-pub mod Play
-pub mod Course
-pub mod Proved
-pub mod Run
-pub mod Replay
-pub mod Settle
-pub mod Compile
-pub mod Prepared
 pub mod Commands
-pub mod Demo

@@ -3,22 +3,14 @@
 ghost use Rattle.std.specs.Prelude.{◌≡◌, ◌↔◌, ◌<◌, ◌^◌, length, IfOk, IsTrue};
 ghost use Rattle.pop_lines.specs.Lines.{lines_of};
 ghost use Rattle.pop_words.specs.Words.{HasLimits};
-ghost use Rattle.tool_commands.specs.Prepared.{ready, Prepares, NeedsNoThreads};
-ghost use Rattle.tool_commands.specs.Commands.{CommandGives, IsPlain, reads};
+ghost use Rattle.tool_runs.specs.Prepared.{Prepares, NeedsNoThreads};
+ghost use Rattle.tool_commands.specs.Commands.{CommandGives, IsPlain, reads, ready};
 
-use crate::check::check;
-use crate::compile::compile;
-use crate::demo::prepare_demo;
-use crate::eval::eval;
-use crate::play::play;
-use crate::prepared::Prepared;
-use crate::replay::replay;
-use crate::run::{is_by_one, prepare_run};
-use crate::settle::settle;
-use crate::show::show;
 use comp_net::LeafChoice;
 use pop_words::{Command, RunKind};
 use std::alloc::Global;
+use tool_proofs::{check_input, compile_input, eval_input, play_input, settle_input, show_input};
+use tool_runs::{Prepared, is_by_one, prepare_demo, prepare_run, replay_input};
 use tool_texts::{Output, Stop};
 
 /// What a command prepares for an input that isn't too long.
@@ -29,18 +21,18 @@ pub fn prepare_command(alloc: Global, command: Command, input: &[u8]) -> Result<
     ensures plain { IsPlain command → IfOk result NeedsNoThreads }
 {
     match command {
-        Command::Play => ready(play(alloc, input)),
-        Command::Eval => ready(eval(alloc, input)),
-        Command::Check => ready(check(alloc, input)),
-        Command::Show => ready(show(alloc, input)),
+        Command::Play => ready(play_input(alloc, input)),
+        Command::Eval => ready(eval_input(alloc, input)),
+        Command::Check => ready(check_input(alloc, input)),
+        Command::Show => ready(show_input(alloc, input)),
         Command::Run(spec) => prepare_run(alloc, RunKind::Whole, spec, input),
         Command::Watch(spec) => prepare_run(alloc, RunKind::Watched, spec, input),
-        Command::Replay => ready(replay(alloc, RunKind::Whole, input)),
-        Command::ReplayWatched => ready(replay(alloc, RunKind::Watched, input)),
-        Command::Settle => ready(settle(alloc, input)),
-        Command::Compile => ready(compile(alloc, LeafChoice::Plain, input)),
-        Command::Flocks => ready(compile(alloc, LeafChoice::Flocks, input)),
-        Command::Succinct => ready(compile(alloc, LeafChoice::Succinct, input)),
+        Command::Replay => ready(replay_input(alloc, RunKind::Whole, input)),
+        Command::ReplayWatched => ready(replay_input(alloc, RunKind::Watched, input)),
+        Command::Settle => ready(settle_input(alloc, input)),
+        Command::Compile => ready(compile_input(alloc, LeafChoice::Plain, input)),
+        Command::Flocks => ready(compile_input(alloc, LeafChoice::Flocks, input)),
+        Command::Succinct => ready(compile_input(alloc, LeafChoice::Succinct, input)),
         Command::Demo(number) => Ok(prepare_demo(alloc, number)?),
     }
 }

@@ -1,0 +1,9 @@
+pub mod InputSize
+pub mod Starts
+pub mod Begun
+pub mod Rejected
+pub mod Certified
+pub mod AnyBundles
+pub mod OneLast
+pub mod OneBundle
+pub mod OtherEndings

@@ -1,0 +1,5 @@
+pub mod Named
+pub mod Start
+pub mod LastPair
+pub mod Bundles
+pub mod StableBundles

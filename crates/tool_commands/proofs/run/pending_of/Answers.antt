@@ -1,4 +1,0 @@
-use Rattle.tool_commands.proofs.run.pending_of.Goals as goal
-
-pub returns : goal.returns
-returns c = rw c.in_ok-lines.ensures at c.pending-run.ensures

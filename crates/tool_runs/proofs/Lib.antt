@@ -1,0 +1,11 @@
+pub mod Ran
+pub mod Ends
+pub mod Made
+pub mod ProvedBundles
+pub mod Leads
+pub mod DemoCases
+pub mod Changed
+pub mod Endings
+pub mod OneRun
+pub mod OneReplay
+pub mod OneDemo

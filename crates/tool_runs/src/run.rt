@@ -1,0 +1,214 @@
+//! The commands `run` and `watch`.
+
+ghost use Rattle.std.specs.Prelude.{◌≡◌, ◌≤◌, ◌↔◌, ◌++◌, ℕ, List as Items, length, IfOk, IsTrue};
+ghost use Rattle.pop_lines.specs.Lines.{lines_of, ended};
+ghost use Rattle.pop_words.specs.declared.kind.RunKind.TheVariants.{Whole};
+ghost use Rattle.pop_words.specs.Kinds.{most_workers_of};
+ghost use Rattle.pop_words.specs.Options.{IsWithinLimits};
+ghost use Rattle.tool_bundles.specs.Start.{IsStart};
+ghost use Rattle.tool_bundles.specs.StableBundles.{IsAnyBundleWithin, net_of};
+ghost use Rattle.tool_runs.specs.Proved.{proved_pred};
+ghost use Rattle.tool_runs.specs.Run.{journal_end, run_ending, open_pair, OfBegun, RunGives};
+ghost use Rattle.tool_runs.specs.Prepared.{CanRun, IsWrittenTo, IsOutputOfSetting, IsOutputOfRun};
+ghost use Rattle.tool_runs.specs.Prepared.{NeedsNoThreads, Prepares, IsPending};
+
+use crate::prepared::{PendingRun, Prepared, Setting};
+use crate::proved::prove;
+use pair_workers::{End, RunContext};
+use pop_crowd::Crowd;
+use pop_io::{Failure, Gate, List, NoMemory};
+use pop_journal::{Last, push_end, push_run_alone};
+use pop_watch::push_run;
+use pop_words::{RunKind, RunSpec};
+use std::alloc::{AllocError, Global};
+use std::sync::Wait;
+use std::thread::Threads;
+use tool_bundles::{AnyBundle, Start, begin_any};
+use tool_texts::{Ending, Output, Stop, just_two_lines};
+
+/// Whether a run has one worker. A whole run by one worker is made without threads; any other run is made on threads.
+pub fn is_by_one(spec: &RunSpec) -> bool
+    ensures { IsTrue result ↔ (spec.now.workers ≡ 1) }
+{
+    spec.workers == 1
+}
+
+/// The journal's last line for the end of a run, given that of a run that leaves no pair, and how the command ends.
+pub(crate) fn last_and_ending(told: Last, end: End) -> (Last, Ending)
+    ensures { result ≡ (journal_end told (open_pair end), run_ending (open_pair end)) }
+{
+    match end {
+        End::Terminal => (told, Ending::Done),
+        End::Open(a, b) => (Last::Undecided(a, b), Ending::Undecided),
+    }
+}
+
+/// Two lines, each with its line feed.
+fn both_lines(alloc: Global, first: &[u8], second: &[u8]) -> Result<List<u8>, AllocError>
+    ensures { IfOk result (λ text. text ≡ ended first.now ++ ended second.now) }
+{
+    let mut text = Vec::from_slice(alloc, first)?;
+    text.extend_from_slice(b"\n")?;
+    text.extend_from_slice(second)?;
+    text.extend_from_slice(b"\n")?;
+    Ok(List::from_vec(text))
+}
+
+/// The output of a run that was made to its end: the text with its last crowd and its last line added.
+fn run_output(
+    alloc: Global,
+    text: Vec<u8>,
+    setting: &Setting,
+    crowd: &Crowd,
+    end: End,
+) -> Result<Output, NoMemory>
+    requires variables { (proved_pred setting.now.proved).variables ≡ length setting.now.counts }
+    requires written { (lines : Items ℕ) × IsWrittenTo setting.now lines text.items crowd.now end }
+    ensures { IfOk result
+        (λ output. (lines : Items ℕ) → IsWrittenTo setting.now lines text.items crowd.now end
+        → IsOutputOfSetting setting.now lines output) }
+{
+    let mut text = text;
+    let told = setting.proved.last(setting.counts.as_slice());
+    let (last, ending) = last_and_ending(told, end);
+    push_end(alloc, &mut text, setting.proved.net(), crowd, last)?;
+    Ok(Output::new(text, ending))
+}
+
+/// Makes a whole run by one worker, and writes it while it runs. It waits for no thread.
+pub fn make_alone<G: Gate>(alloc: Global, run: PendingRun, gate: &G) -> Result<Output, NoMemory>
+    requires can { CanRun run }
+    requires alone { run.setting.spec.workers ≡ 1 }
+    requires kind { run.setting.kind ≡ Whole }
+    ensures { IfOk result (IsOutputOfRun run) }
+{
+    let PendingRun {
+        lines,
+        setting,
+        crowd,
+    } = run;
+    let (net, rest) = (setting.proved.net(), setting.proved.rest());
+    let spec = &setting.spec;
+    let context = RunContext {
+        net,
+        rest,
+        spec,
+        gate,
+    };
+    let text = lines.into_vec();
+    let (text, last_crowd, end) = push_run_alone(alloc, text, &context, crowd)?;
+    run_output(alloc, text, &setting, &last_crowd, end)
+}
+
+/// Makes a run by workers on threads, which may wait for one another, and writes it while it runs.
+pub fn make_on_threads<R: Threads + Wait + Sync, G: Gate>(
+    rt: &R,
+    alloc: Global,
+    run: PendingRun,
+    gate: &G,
+) -> Result<Output, NoMemory>
+    requires { CanRun run }
+    ensures { IfOk result (IsOutputOfRun run) }
+{
+    let PendingRun {
+        lines,
+        setting,
+        crowd,
+    } = run;
+    let (net, rest) = (setting.proved.net(), setting.proved.rest());
+    let spec = &setting.spec;
+    let context = RunContext {
+        net,
+        rest,
+        spec,
+        gate,
+    };
+    let text = lines.into_vec();
+    let (text, last_crowd, end) = push_run(rt, alloc, text, setting.kind, &context, crowd)?;
+    run_output(alloc, text, &setting, &last_crowd, end)
+}
+
+/// The run that is still to be made, alone or on threads.
+fn pending(run: PendingRun) -> Prepared
+    ensures { IsPending run result }
+{
+    match run.setting.kind {
+        RunKind::Whole if is_by_one(&run.setting.spec) => Prepared::Alone(run),
+        _ => Prepared::Threads(run),
+    }
+}
+
+/// The run of a net with a valid proof that is still to be made.
+fn pending_of(
+    alloc: Global,
+    lines: (&[u8], &[u8]),
+    setting: Setting,
+    crowd: Crowd,
+) -> Result<Prepared, AllocError>
+    ensures { IfOk result (IsPending (record {
+      lines = ended lines.entry.0.now ++ ended lines.entry.1.now;
+      setting = setting;
+      crowd = crowd;
+    })) }
+{
+    let lines = both_lines(alloc, lines.0, lines.1)?;
+    let run = pending(PendingRun {
+        lines,
+        setting,
+        crowd,
+    });
+    Ok(run)
+}
+
+/// The run of a bundle's net, if its proof is valid.
+fn prepare_begun(
+    alloc: Global,
+    kind: RunKind,
+    spec: RunSpec,
+    lines: (&[u8], &[u8]),
+    bundle: AnyBundle,
+    start: Start,
+) -> Result<Prepared, Stop>
+    requires spec { IsWithinLimits spec }
+    requires workers { spec.workers ≤ most_workers_of kind }
+    requires limits { IsAnyBundleWithin bundle }
+    requires start { IsStart (net_of bundle) start }
+    ensures leads { Prepares
+        (OfBegun kind spec (ended lines.entry.0.now ++ ended lines.entry.1.now) (bundle, start.counts)) result }
+    ensures plain { kind ≡ Whole → spec.workers ≡ 1 → IfOk result NeedsNoThreads }
+{
+    let Start { counts, crowd } = start;
+    match prove(alloc, bundle, counts.as_slice()) {
+        Ok(proved) => {
+            let setting = Setting {
+                kind,
+                spec,
+                proved,
+                counts,
+            };
+            let run = pending_of(alloc, lines, setting, crowd)?;
+            Ok(run)
+        }
+        Err(Failure::Fault(rejected)) => Ok(Prepared::Text(Output::of_stable_rejection(
+            alloc, rejected,
+        )?)),
+        Err(Failure::NoMemory) => Err(Failure::NoMemory),
+    }
+}
+
+/// What the command that makes a run of this kind prepares for an input that isn't too long.
+pub fn prepare_run(
+    alloc: Global,
+    kind: RunKind,
+    spec: RunSpec,
+    input: &[u8],
+) -> Result<Prepared, Stop>
+    requires spec { IsWithinLimits spec }
+    requires workers { spec.workers ≤ most_workers_of kind }
+    ensures leads { Prepares (RunGives kind spec (lines_of input.now)) result }
+    ensures plain { kind ≡ Whole → spec.workers ≡ 1 → IfOk result NeedsNoThreads }
+{
+    let lines = just_two_lines(input)?;
+    let (bundle, start) = begin_any(alloc, lines)?;
+    prepare_begun(alloc, kind, spec, lines, bundle, start)
+}
