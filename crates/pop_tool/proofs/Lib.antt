@@ -1,6 +1,6 @@
 mod Replies
 mod Puts
-mod One
+mod OneAnswer
 mod CountLengths
 mod BundleInput
 mod FirstBytes

@@ -1,3 +1,3 @@
 pub mod Ready
 pub mod Endings
-pub mod One
+pub mod OneOutput

@@ -1,5 +1,5 @@
-use Rattle.pop_tool.proofs.One
+use Rattle.pop_tool.proofs.OneAnswer
 use Rattle.pop_tool.proofs.law.one_answer.Goals as goal
 
 pub returns : goal.returns
-returns c = One.one_answer
+returns c = OneAnswer.one_answer

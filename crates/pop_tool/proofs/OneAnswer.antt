@@ -11,7 +11,7 @@ use Rattle.tool_texts.specs.declared.refusal.Refusal.TheVariants.{TooLong}
 use Rattle.tool_texts.specs.declared.output.Output.{Output}
 use Rattle.tool_texts.specs.Refusals.{output_for}
 use Rattle.tool_commands.specs.Commands.{CommandGives, IsDetermined, reads}
-use Rattle.tool_commands.proofs.One.{one_given}
+use Rattle.tool_commands.proofs.OneOutput.{one_given}
 use Rattle.pop_tool.specs.Answer.{InputGives, OfMeaning}
 use Rattle.pop_tool.specs.OneAnswer.{IsOneAnswer}
 
