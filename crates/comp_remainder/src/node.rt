@@ -10,7 +10,7 @@ ghost use Rattle.comp_remainder.specs.RemainderProof.{remainder_wrong_node, rema
 use crate::leaf::output;
 use crate::modulus::Modulus;
 use cert_base::Node;
-use comp_trees::{multipliers, terms, tree, weighed};
+use comp_trees::{MixParts, multipliers, terms, tree, weighed};
 use pop_io::{List, NoMemory};
 use pop_net::Leaf;
 use std::alloc::Global;
@@ -73,16 +73,14 @@ fn value_node(
     let values = values(alloc, modulus)?;
     let added = opened(answer);
     let alone = value(modulus, p);
-    let mixed = multipliers(
-        alloc,
-        leaf,
-        p,
-        values.as_slice(),
-        0,
-        added,
-        values.as_slice(),
+    let parts = MixParts {
+        flows: values.as_slice(),
+        wrong: 0,
+        opened: added,
+        out: values.as_slice(),
         alone,
-    )?;
+    };
+    let mixed = multipliers(alloc, leaf, p, &parts)?;
     Ok(Node::Residue(u32::from(modulus.number), terms(alloc, mixed.as_slice())?))
 }
 
@@ -93,7 +91,14 @@ fn wrong_node(alloc: Global, leaf: &Leaf, answer: bool, p: u16) -> Result<Node, 
 {
     let none = vec![in alloc; 0i64; usize::from(leaf.state_count())]?;
     let signs = signs(alloc, leaf, answer)?;
-    let mixed = multipliers(alloc, leaf, p, none.as_slice(), 1, 0, signs.as_slice(), 0)?;
+    let parts = MixParts {
+        flows: none.as_slice(),
+        wrong: 1,
+        opened: 0,
+        out: signs.as_slice(),
+        alone: 0,
+    };
+    let mixed = multipliers(alloc, leaf, p, &parts)?;
     weighed(alloc, mixed.as_slice())
 }
 

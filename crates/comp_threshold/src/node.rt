@@ -11,7 +11,7 @@ use crate::building::output;
 use crate::narrow::Width;
 use crate::values::{place_in, span};
 use cert_base::Node;
-use comp_trees::{multipliers, tree, weighed};
+use comp_trees::{MixParts, multipliers, tree, weighed};
 use pop_io::{List, NoMemory};
 use std::alloc::Global;
 
@@ -58,16 +58,14 @@ fn value_node(alloc: Global, bounded: &BoundedLeaf<'_>, b: bool, p: u16) -> Resu
 {
     let values = values(alloc, bounded.width, b)?;
     let alone = signed(bounded.width, b, p);
-    let multipliers = multipliers(
-        alloc,
-        bounded.leaf,
-        p,
-        values.as_slice(),
-        0,
-        1,
-        values.as_slice(),
+    let parts = MixParts {
+        flows: values.as_slice(),
+        wrong: 0,
+        opened: 1,
+        out: values.as_slice(),
         alone,
-    )?;
+    };
+    let multipliers = multipliers(alloc, bounded.leaf, p, &parts)?;
     weighed(alloc, multipliers.as_slice())
 }
 
@@ -78,16 +76,14 @@ fn wrong_node(alloc: Global, bounded: &BoundedLeaf<'_>, b: bool, p: u16) -> Resu
 {
     let none = vec![in alloc; 0i64; usize::from(3 * span(bounded.width))]?;
     let signs = signs(alloc, bounded.width, bounded.bound, b)?;
-    let multipliers = multipliers(
-        alloc,
-        bounded.leaf,
-        p,
-        none.as_slice(),
-        1,
-        0,
-        signs.as_slice(),
-        0,
-    )?;
+    let parts = MixParts {
+        flows: none.as_slice(),
+        wrong: 1,
+        opened: 0,
+        out: signs.as_slice(),
+        alone: 0,
+    };
+    let multipliers = multipliers(alloc, bounded.leaf, p, &parts)?;
     weighed(alloc, multipliers.as_slice())
 }
 

@@ -14,7 +14,7 @@ mod others;
 mod preorder;
 mod sorting;
 
-pub use mixing::{MULTIPLIER_LIMIT, mix, mixed, multipliers, picked, terms, weighed};
+pub use mixing::{MULTIPLIER_LIMIT, MixParts, mix, mixed, multipliers, picked, terms, weighed};
 pub use others::company;
 pub use preorder::tree;
 pub use sorting::layer;

@@ -13,6 +13,17 @@ use std::alloc::Global;
 /// The most multipliers of a node: a term names its fact by a `u32`.
 pub const MULTIPLIER_LIMIT: usize = 1 << 32;
 
+/// The multipliers of a leader's node: of the states' flow facts, of the wrong output, of the opened fact, of the
+/// states that are ruled out, and of the fact that the leader is alone.
+#[derive(Clone, Copy)]
+pub struct MixParts<'a> {
+    pub flows: &'a [i64],
+    pub wrong: i64,
+    pub opened: i64,
+    pub out: &'a [i64],
+    pub alone: i64,
+}
+
 /// The facts that are named by the multipliers other than 0.
 pub fn terms(alloc: Global, multipliers: &[i64]) -> Result<List<Term>, NoMemory>
     requires { length multipliers.now ≤ MULTIPLIER_LIMIT }
@@ -78,23 +89,20 @@ pub fn multipliers(
     alloc: Global,
     leaf: &Leaf,
     leader: u16,
-    flows: &[i64],
-    wrong: i64,
-    opened: i64,
-    out: &[i64],
-    alone: i64,
+    parts: &MixParts<'_>,
 ) -> Result<Vec<i64>, NoMemory>
     requires leader { leader < length leaf.now.states }
-    requires flows { length flows.now ≡ length leaf.now.states }
-    requires out { length out.now ≡ length leaf.now.states }
+    requires flows { length parts.now.flows.now ≡ length leaf.now.states }
+    requires out { length parts.now.out.now ≡ length leaf.now.states }
     ensures mix { IfOk result (λ multipliers. multipliers.items
-        ≡ mix_of_leader leaf.now (company_of leaf.now leader) (mix_by flows.now wrong opened out.now alone) leader) }
+        ≡ mix_of_leader leaf.now (company_of leaf.now leader)
+        (mix_by parts.now.flows.now parts.now.wrong parts.now.opened parts.now.out.now parts.now.alone) leader) }
     ensures short { IfOk result (λ multipliers. length multipliers.items ≤ MULTIPLIER_LIMIT) }
 {
     // What the invariant says is known from here on.
     let _formed = leaf.state_count();
-    let mut multipliers = above(alloc, leader, flows, wrong, opened)?;
-    let own = own(alloc, leaf, leader, out, alone)?;
+    let mut multipliers = above(alloc, leader, parts.flows, parts.wrong, parts.opened)?;
+    let own = own(alloc, leaf, leader, parts.out, parts.alone)?;
     multipliers.extend_from_slice(own.as_slice())?;
     Ok(multipliers)
 }
