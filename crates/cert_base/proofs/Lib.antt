@@ -4,7 +4,7 @@ pub mod ListTests
 pub mod Dead
 pub mod Agents
 pub mod Weights
-pub mod Spread
+pub mod WeightBounds
 pub mod TermLists
 pub mod FlowRows
 pub mod Equations

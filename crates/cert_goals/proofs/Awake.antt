@@ -15,7 +15,7 @@ use Rattle.cert_base.proofs.WeightedSums.{list_any-from}
 use Rattle.cert_layers.specs.Waking.{IsPair, brings_state, brings_two_states, wakes_with_state, wakes_states}
 use Rattle.cert_layers.proofs.Asleep.{wakes-brought, wakes-other, right_false}
 use Rattle.cert_layers.proofs.Covers.{Like, times-like, within_two, within_three, left_none, left_one, left_both}
-use Rattle.pop_hushed.specs.Hushed.{hushed}
+use Rattle.pop_net.specs.Hushed.{hushed}
 use Rattle.pop_hushed.specs.Laws.{IsKeptMove}
 use Rattle.pop_hushed.proofs.Kept.{kept_listed, listed_kept}
 use Rattle.pop_hushed.proofs.Moves.{hushed_move, kept_move}

@@ -10,7 +10,7 @@ use Rattle.pop_io.specs.Failures.{IfFault, OnlyMemory}
 use Rattle.pop_net.specs.LeafModel.{LeafModel}
 use Rattle.pop_net.proofs.Quiet.{All-slice_get}
 use Rattle.cert_layers.specs.LayerFaults.{Each}
-use Rattle.pop_hushed.specs.Hushed.{hushed}
+use Rattle.pop_net.specs.Hushed.{hushed}
 use Rattle.cert_goals.specs.declared.fault.SetFault.{SetFault}
 use Rattle.cert_goals.specs.declared.fault.SetFault.TheVariants.{Output, Leaves, Wakes}
 use Rattle.goal_sets.specs.Stays.{escapes, SleepIn, IsGuardedAt, IsGuarded}

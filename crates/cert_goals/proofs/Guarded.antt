@@ -10,7 +10,7 @@ use Rattle.cert_layers.specs.LayerFaults.{Each, IsFirstFailing}
 use Rattle.cert_layers.specs.Search.{some_move}
 use Rattle.cert_layers.proofs.Firsts.{first_below-Some}
 use Rattle.cert_layers.proofs.NotLower.{some_move-true, some_move-false}
-use Rattle.pop_hushed.specs.Hushed.{hushed}
+use Rattle.pop_net.specs.Hushed.{hushed}
 use Rattle.pop_hushed.proofs.Kept.{listed_cases}
 use Rattle.goal_sets.specs.Stays.{leads_out, IsGuardedAt}
 use Rattle.goal_sets.proofs.Escapes.{escape_is, is_escape}

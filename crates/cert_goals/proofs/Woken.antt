@@ -15,7 +15,7 @@ use Rattle.cert_layers.specs.Waking.{wakes_states, may_wake_any, FindsFirst}
 use Rattle.cert_layers.proofs.Asleep.{asleep_pair, right_false}
 use Rattle.cert_layers.proofs.Firsts.{first_below-Some}
 use Rattle.cert_layers.proofs.NotLower.{some_move-true, some_move-false}
-use Rattle.pop_hushed.specs.Hushed.{is_kept, hushed}
+use Rattle.pop_net.specs.Hushed.{is_kept, hushed}
 use Rattle.pop_hushed.proofs.Kept.{kept_listed}
 use Rattle.pop_hushed.proofs.Moves.{hush_silent, hushed_move, kept_move, other_move}
 use Rattle.goal_sets.specs.Stays.{takes_within, WasPossible, SleepsFor, SleepIn}

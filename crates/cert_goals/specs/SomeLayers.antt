@@ -4,7 +4,7 @@ use Rattle.pop_io.specs.declared.failure.Failure.{Failure}
 use Rattle.pop_net.specs.LeafModel.{LeafModel}
 use Rattle.pop_net.specs.Step.{LeafStep}
 use Rattle.pop_net.specs.Reachable.{ReachedWithin}
-use Rattle.pop_hushed.specs.Hushed.{hushed}
+use Rattle.pop_net.specs.Hushed.{hushed}
 use Rattle.pop_hushed.specs.Laws.{NoneCanTake}
 use Rattle.cert_base.specs.declared.layer.Layer.{Layer}
 use Rattle.cert_base.specs.ValidLayers.{moves_of_layers}

@@ -2,7 +2,7 @@
 
 ghost use Rattle.std.specs.Prelude.{◌≡◌, IfOk, MatchBool};
 ghost use Rattle.pop_net.specs.LeafModel.{IsLeaf};
-ghost use Rattle.pop_hushed.specs.Hushed.{hushed};
+ghost use Rattle.pop_net.specs.Hushed.{hushed};
 ghost use Rattle.cert_base.specs.ValidLayers.{moves_of_layers};
 ghost use Rattle.goal_sets.specs.Stays.{escapes, SleepIn};
 ghost use Rattle.cert_goals.specs.SetTests.{FindsWoken};

@@ -25,7 +25,7 @@ use Rattle.cert_base.proofs.Numbers.{before_pre}
 use Rattle.cert_base.proofs.Integers.{add-mul}
 use Rattle.cert_layers.specs.Search.{numbered_layer, no_layer, some_move}
 use Rattle.cert_layers.proofs.LayerMoves.{any_move, any_move-at}
-use Rattle.cert_base.proofs.Spread.{within, total-above, total-below}
+use Rattle.cert_base.proofs.WeightBounds.{within, total-above, total-below}
 use Rattle.cert_base.proofs.Weights.{total, total_falls}
 use Rattle.cert_base.proofs.WeightedSums.{list_any-from}
 

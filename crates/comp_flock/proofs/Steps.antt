@@ -7,7 +7,7 @@ use Rattle.std.proofs.lemmas.Bool.{cases_eq, eq-eqb, ne_eqb}
 use Rattle.std.proofs.lemmas.List.Sums.{sum_by-cons}
 use Rattle.cert_base.specs.declared.layer.Layer.{Layer}
 use Rattle.cert_base.specs.ProofBound.{weights_spread, layers_bound}
-use Rattle.cert_base.proofs.Spread.{spread_of}
+use Rattle.cert_base.proofs.WeightBounds.{spread_of}
 use Rattle.comp_flock.specs.FlockLeaf.{flock_state_count}
 use Rattle.comp_flock.specs.FlockProof.{flock_weight, flock_layers_of, for_states, offset_steps}
 use Rattle.comp_flock.proofs.Layers.{weight-full, weight-power}

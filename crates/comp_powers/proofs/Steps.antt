@@ -6,7 +6,7 @@ use Rattle.std.proofs.lemmas.Int.{ints}
 use Rattle.std.proofs.lemmas.Bool.{lt-ltb}
 use Rattle.std.proofs.lemmas.List.Folds.{list_any_at}
 use Rattle.cert_base.specs.ProofBound.{weights_spread, layers_bound}
-use Rattle.cert_base.proofs.Spread.{spread_of}
+use Rattle.cert_base.proofs.WeightBounds.{spread_of}
 use Rattle.comp_trees.specs.SortedLayers.{sorted_layer}
 use Rattle.comp_trees.proofs.ThreeLayers.{three_layers}
 use Rattle.comp_powers_leaf.specs.declared.role.Role.{Role}

@@ -12,7 +12,7 @@ use Rattle.pop_net.specs.LeafModel.{LeafModel}
 use Rattle.cert_base.specs.declared.layer.Layer.{Layer}
 use Rattle.cert_base.specs.ProofBound.{weights_spread, layers_bound}
 use Rattle.cert_base.specs.ValidLayers.{weight_at, IsLower, ValidLayers}
-use Rattle.cert_base.proofs.Spread.{spread_of}
+use Rattle.cert_base.proofs.WeightBounds.{spread_of}
 use Rattle.comp_trees.proofs.SortedLayers.{AreKinds, sorted_layers-valid}
 use Rattle.comp_trees.proofs.TrapNodes.{places-all}
 use Rattle.comp_flock.specs.FlockLeaf.{flock_state_count}

@@ -4,7 +4,7 @@ use Rattle.std.specs.Prelude.{ℤ, pos, negsuc, ◌+ℤ◌, nat_lt, nat_abs, fol
 use Rattle.std.proofs.lemmas.Int.{ints}
 use Rattle.std.proofs.lemmas.Bool.{lt-ltb, le-ltb, cases_lt}
 use Rattle.comp_threshold.specs.ThresholdLeaf.{greater, smaller, threshold_width, span_of, place_of_value, threshold_place, threshold_follower, joined_value, leftover, threshold_output, threshold_value}
-use Rattle.cert_base.proofs.Spread.{nat_abs-pos}
+use Rattle.cert_base.proofs.WeightBounds.{nat_abs-pos}
 
 -- ---- the smaller one
 

@@ -5,7 +5,7 @@ use Rattle.std.proofs.lemmas.Int.{ints}
 use Rattle.std.proofs.lemmas.Bool.{ltb-true}
 use Rattle.pop_net.specs.LeafModel.{LeafModel}
 use Rattle.cert_base.specs.ProofBound.{weights_spread, layers_bound}
-use Rattle.cert_base.proofs.Spread.{spread_of}
+use Rattle.cert_base.proofs.WeightBounds.{spread_of}
 use Rattle.comp_trees.specs.SortedLayers.{sorted_layer, leader_kind}
 use Rattle.comp_trees.proofs.ThreeLayers.{three_layers, chosen_within}
 use Rattle.comp_threshold.specs.ThresholdLeaf.{span_of, threshold_place, threshold_follower, threshold_state_count}

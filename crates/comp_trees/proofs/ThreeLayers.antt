@@ -7,7 +7,7 @@ use Rattle.std.proofs.lemmas.List.Sums.{sum_by-cons}
 use Rattle.cert_base.specs.declared.layer.Layer.{Layer}
 use Rattle.cert_base.specs.ProofBound.{weights_spread, layers_bound}
 use Rattle.cert_base.specs.FactsAndCases.{indicator}
-use Rattle.cert_base.proofs.Spread.{spread_of}
+use Rattle.cert_base.proofs.WeightBounds.{spread_of}
 
 pub three_layers : (a b c : Layer) → layers_bound (a ∷ b ∷ c ∷ []) ≡ weights_spread a.weights + weights_spread b.weights + weights_spread c.weights
 three_layers a b c =

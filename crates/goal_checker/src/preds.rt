@@ -5,7 +5,6 @@ ghost use Rattle.goal_checker.specs.ValidStable.{predicate_alone, predicates_alo
 
 use cert_base::{LeafGoals, LeafProof, Proof, StablePart, StableProof};
 use pop_io::{List, NoMemory};
-use pres_ast::Pred;
 use std::alloc::Global;
 
 /// The proof that has the leaves' predicates and nothing else.

@@ -10,7 +10,7 @@ use Rattle.pop_net.proofs.Permutations.{meets_permuted, terminal_permuted}
 use Rattle.cert_base.specs.GoalEnds.{IsWithin}
 use Rattle.cert_base.proofs.Dead.{IsEnabledIn}
 use Rattle.cert_layers.proofs.Termination.{leads-append}
-use Rattle.pop_hushed.specs.Hushed.{hushed}
+use Rattle.pop_net.specs.Hushed.{hushed}
 use Rattle.pop_hushed.specs.Laws.{IsKeptMove}
 use Rattle.pop_hushed.proofs.Kept.{listed_cases}
 use Rattle.goal_sets.specs.Stays.{escapes, IsGuarded, SleepIn}

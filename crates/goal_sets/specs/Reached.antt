@@ -6,7 +6,7 @@ use Rattle.pop_net.specs.LeafModel.{LeafModel}
 use Rattle.pop_net.specs.Step.{LeafStep}
 use Rattle.pop_net.specs.Reachable.{Reachable}
 use Rattle.pop_net.specs.Terminal.{IsTerminal}
-use Rattle.pop_hushed.specs.Hushed.{hushed}
+use Rattle.pop_net.specs.Hushed.{hushed}
 use Rattle.cert_base.specs.GoalEnds.{IsWithin, EndsInside}
 use Rattle.goal_sets.specs.Stays.{escapes, IsGuarded}
 

@@ -10,7 +10,6 @@ use crate::context::RunContext;
 use crate::ends::{end_of, goes_on};
 use crate::picker::Picker;
 use crate::round::next_round;
-use crate::round_end::RoundEnd;
 use crate::round_start::RoundStart;
 use agent_field::Layout;
 use pop_crowd::Crowd;

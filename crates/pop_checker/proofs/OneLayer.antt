@@ -31,7 +31,7 @@ use Rattle.pop_fair.proofs.Reached.{leads_one_more}
 use Rattle.cert_base.specs.ProofBound.{weights_spread, layers_bound, proof_bound}
 use Rattle.cert_base.specs.ValidLayers.{IsInLayer, IsLower, ValidLayers}
 use Rattle.cert_base.proofs.Integers.{add-mul}
-use Rattle.cert_base.proofs.Spread.{within, total-above, total-below}
+use Rattle.cert_base.proofs.WeightBounds.{within, total-above, total-below}
 use Rattle.cert_base.proofs.Weights.{total, total_falls}
 use Rattle.pop_random.specs.RandomMeetings.{meet}
 use Rattle.pop_random.specs.ComputesAlmostSurely.{ComputesInCubicTime}

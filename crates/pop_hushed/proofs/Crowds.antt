@@ -10,7 +10,7 @@ use Rattle.pop_net.proofs.Quiet.{set_same}
 use Rattle.pop_net.proofs.Silent.{stays-silent}
 use Rattle.list_laws.proofs.Lists.{slice_get-set_same, slice_get-set_other}
 use Rattle.list_laws.proofs.Options.{same_value}
-use Rattle.pop_hushed.specs.Hushed.{hushed}
+use Rattle.pop_net.specs.Hushed.{hushed}
 use Rattle.pop_hushed.specs.Laws.{IsKeptMove, NoneCanTake, LeavesAreHushed}
 use Rattle.pop_hushed.proofs.Moves.{hushed_formed, hushed_move, kept_move, hushed_all}
 

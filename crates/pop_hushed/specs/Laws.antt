@@ -4,7 +4,7 @@ use Rattle.pop_net.specs.declared.leaf.Move.{Move}
 use Rattle.pop_net.specs.LeafModel.{LeafModel, IsLeaf, silent_move}
 use Rattle.pop_net.specs.Step.{LeafStep}
 use Rattle.pop_net.specs.Terminal.{IsTerminal}
-use Rattle.pop_hushed.specs.Hushed.{hushed}
+use Rattle.pop_net.specs.Hushed.{hushed}
 
 -- t is a kept move that isn't silent, and has this number
 pub record IsKeptMove (leaf : LeafModel) (kept : List ℕ) (number : ℕ) (t : Move) : Type 0 where

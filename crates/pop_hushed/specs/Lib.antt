@@ -1,3 +1,2 @@
-pub mod Hushed
 pub mod Laws
 pub mod Marks

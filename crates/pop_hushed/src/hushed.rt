@@ -1,7 +1,7 @@
 //! The hushed leaf.
 
 ghost use Rattle.std.specs.Prelude.{◌≡◌, length, IfOk};
-ghost use Rattle.pop_hushed.specs.Hushed.{hush_unless, hushed_moves, hushed};
+ghost use Rattle.pop_net.specs.Hushed.{hush_unless, hushed_moves, hushed};
 ghost use Rattle.pop_hushed.specs.Marks.{AreMarks};
 
 use crate::marks::marks_of;

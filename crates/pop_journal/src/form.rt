@@ -7,7 +7,7 @@ ghost use Rattle.pair_workers.specs.Run.{meetings_of, turns_in};
 ghost use Rattle.pop_journal.specs.ReadLines.{first_ends};
 ghost use Rattle.pop_journal.specs.Form.{Tells, told_in, three_numbers, meeting_told, onward, number_named};
 ghost use Rattle.pop_journal.specs.Form.{at_the_end, number_first, turns_named, spec_named, spec_in};
-ghost use Rattle.pop_words.specs.Walk.{words_behind};
+ghost use Rattle.pop_words.specs.WordsBehind.{words_behind};
 ghost use Rattle.pop_words.specs.Kinds.{most_workers_of};
 ghost use Rattle.pop_words.specs.Options.{IsWithinLimits};
 ghost use Rattle.std.specs.Option.{option_copied};

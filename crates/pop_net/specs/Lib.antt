@@ -1,4 +1,5 @@
 pub mod LeafModel
+pub mod Hushed
 pub mod FirstFault
 pub mod LeafFaults
 pub mod NetModel

@@ -5,7 +5,7 @@ use Rattle.std.proofs.Math.IntN.{pos-*ℤ-pos}
 use Rattle.std.proofs.lemmas.Int.{ints}
 use Rattle.cert_base.specs.ProofBound.{weights_spread}
 use Rattle.cert_base.proofs.Integers.{add-mul}
-use Rattle.cert_base.proofs.Spread.{within, total-above, total-below}
+use Rattle.cert_base.proofs.WeightBounds.{within, total-above, total-below}
 use Rattle.cert_base.proofs.Weights.{total}
 
 -- the weights of all agents, beyond the least that they may be

@@ -17,8 +17,7 @@ use crate::missing::make_missing;
 use crate::observe::observe;
 use agent_field::{Field, FieldSeat, Layout};
 use pair_workers::{
-    ROUND_TURNS, RoundEnd, RoundStart, Shift, Signals, Worker, meetings_made, open_round, take_in,
-    work_all,
+    RoundEnd, RoundStart, Shift, Signals, Worker, meetings_made, open_round, take_in, work_all,
 };
 use pop_crowd::{Crowd, Meeting};
 use pop_io::{Gate, NoMemory};

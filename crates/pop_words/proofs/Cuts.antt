@@ -1,7 +1,7 @@
 -- A word cut off a line.
 use Rattle.std.proofs.Common.{◌≡◌, ℕ, ◌+◌, ◌<◌, List, ◌∷◌, length, Option, Some, None, ap, arith, length-append}
 use Rattle.pop_lines.specs.Lines.{pieces, IsCut}
-use Rattle.pop_words.specs.Walk.{words_behind, bytes_left}
+use Rattle.pop_words.specs.WordsBehind.{words_behind, bytes_left}
 
 -- cutting off a word and the space after it leaves fewer bytes
 pub shorter : (c : ℕ) (bytes word : List ℕ) (rest : Option (List ℕ)) → IsCut c bytes word rest → bytes_left rest < length bytes + 1

@@ -12,7 +12,7 @@ use Rattle.std.proofs.lemmas.Slice.Eq.{bytes_eq-Decides}
 use Rattle.pop_io.specs.Names.{variable_name, is_name_byte, starts_name}
 use Rattle.pop_io.specs.declared.names.TheConstants.{NAME_LIMIT, VARIABLE_LIMIT}
 use Rattle.pop_words.specs.Vars.{are_distinct, are_variables, AreVariables}
-use Rattle.pop_words.specs.Walk.{can_join}
+use Rattle.pop_words.specs.WordsBehind.{can_join}
 
 -- the test for equal texts is symmetric
 bytes_eq-swap : (a b : List ℕ) → bytes_eq a b ≡ true → bytes_eq b a ≡ true

@@ -5,7 +5,7 @@ use Rattle.std.proofs.lemmas.Bool.{eq-eqb}
 use Rattle.std.proofs.lemmas.List.Splits.{slice_split-cons_yes, slice_split-cons_no, length-slice_split}
 use Rattle.pop_lines.specs.Lines.{pieces, IsCut}
 use Rattle.pop_words.specs.Counts.{split_once, with_word, with_words}
-use Rattle.pop_words.specs.Walk.{words_behind, without_count}
+use Rattle.pop_words.specs.WordsBehind.{words_behind, without_count}
 use Rattle.std.specs.Prelude.{is_none, slice_set, map, if◌then◌else◌}
 use Rattle.std.proofs.lemmas.List.Sums.{sum_by-set, sum_by-cons}
 use Rattle.pop_words.proofs.Cuts.{words-cut}

@@ -5,5 +5,5 @@ pub mod Words
 pub mod Meetings
 pub mod Vars
 pub mod Counts
-pub mod Walk
+pub mod WordsBehind
 pub mod Reasons

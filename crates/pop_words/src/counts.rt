@@ -5,7 +5,7 @@ ghost use Rattle.std.specs.Prelude.{unwrap_or, IfOk, MatchBool, false};
 ghost use Rattle.std.specs.Option.{option_copied};
 ghost use Rattle.pop_words.specs.Vars.{AreVariables};
 ghost use Rattle.pop_words.specs.Counts.{with_word, with_words, counts_of, Counted};
-ghost use Rattle.pop_words.specs.Walk.{words_behind, without_count};
+ghost use Rattle.pop_words.specs.WordsBehind.{words_behind, without_count};
 
 use pop_io::{Failure, List, Text, VARIABLE_LIMIT, place_of};
 use pop_lines::{cut, small_number};

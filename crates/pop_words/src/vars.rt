@@ -5,7 +5,7 @@ ghost use Rattle.std.specs.Prelude.{Ok, Err, MatchOption};
 ghost use Rattle.std.specs.Option.{option_copied};
 ghost use Rattle.pop_io.specs.Names.{variable_name};
 ghost use Rattle.pop_words.specs.Vars.{vars_of, Named, AreVariables};
-ghost use Rattle.pop_words.specs.Walk.{words_behind, can_join, NamedBehind};
+ghost use Rattle.pop_words.specs.WordsBehind.{words_behind, can_join, NamedBehind};
 
 use pop_io::{Failure, List, Text, VARIABLE_LIMIT, is_among, is_variable_name};
 use pop_lines::cut;

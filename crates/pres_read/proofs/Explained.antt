@@ -34,7 +34,7 @@ use Rattle.pres_read.proofs.KnownNames.{Known, step_known}
 use Rattle.pres_read.proofs.Opens.{term_free}
 use Rattle.pres_read.proofs.Whole.{run_join, kept_push, numbers_fit}
 use Rattle.pres_read.proofs.Breaks.{breaks}
-use Rattle.pres_read.proofs.Says.{first_at, SaysAt, step_says, TermBegun, BegunAfter, step_begun}
+use Rattle.pres_read.proofs.BrokenRules.{first_at, SaysAt, step_says, TermBegun, BegunAfter, step_begun}
 
 -- ---- the rules on one symbol more, and on some less
 

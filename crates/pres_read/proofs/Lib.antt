@@ -20,6 +20,6 @@ pub mod KnownNames
 mod Opens
 mod Whole
 mod Breaks
-mod Says
+mod BrokenRules
 mod Explained
 pub mod PredTexts

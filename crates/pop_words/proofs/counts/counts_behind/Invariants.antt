@@ -1,7 +1,7 @@
 use Rattle.std.proofs.Common.{◌≡◌, ◌+◌, map, None, length}
 use Rattle.std.specs.Option.{option_copied}
 use Rattle.pop_words.specs.Counts.{with_words}
-use Rattle.pop_words.specs.Walk.{words_behind, bytes_left, without_count}
+use Rattle.pop_words.specs.WordsBehind.{words_behind, bytes_left, without_count}
 use Rattle.pop_words.proofs.counts.counts_behind.Given as goal
 
 abbrev pub invariant-words : goal.invariant-words

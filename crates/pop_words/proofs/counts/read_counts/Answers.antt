@@ -4,7 +4,7 @@ use Rattle.std.specs.Str.{bytes_eq}
 use Rattle.std.proofs.lemmas.Bool.{not-false}
 use Rattle.pop_lines.specs.Lines.{pieces}
 use Rattle.pop_words.specs.Counts.{counts_of, with_words}
-use Rattle.pop_words.specs.Walk.{words_behind}
+use Rattle.pop_words.specs.WordsBehind.{words_behind}
 use Rattle.pop_words.proofs.Cuts.{words-cut}
 use Rattle.pop_words.proofs.counts.read_counts.Goals as goal
 

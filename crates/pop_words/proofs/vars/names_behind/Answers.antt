@@ -1,6 +1,6 @@
 use Rattle.std.proofs.Common.{◌≡◌, ◌∷◌, ◌++◌, []}
 use Rattle.std.specs.Option.{option_copied}
-use Rattle.pop_words.specs.Walk.{words_behind}
+use Rattle.pop_words.specs.WordsBehind.{words_behind}
 use Rattle.pop_words.proofs.Cuts.{words-cut}
 use Rattle.pop_words.proofs.NameLists.{joins, refused}
 use Rattle.pop_words.proofs.vars.names_behind.Goals as goal

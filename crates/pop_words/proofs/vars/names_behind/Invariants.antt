@@ -1,5 +1,5 @@
 use Rattle.std.specs.Option.{option_copied}
-use Rattle.pop_words.specs.Walk.{words_behind, bytes_left}
+use Rattle.pop_words.specs.WordsBehind.{words_behind, bytes_left}
 use Rattle.pop_words.proofs.NameLists.{SoFar}
 use Rattle.pop_words.proofs.vars.names_behind.Given as goal
 

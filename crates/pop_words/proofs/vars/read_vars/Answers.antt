@@ -4,7 +4,7 @@ use Rattle.std.specs.Str.{bytes_eq}
 use Rattle.std.proofs.lemmas.Bool.{not-false, not-true}
 use Rattle.pop_lines.specs.Lines.{pieces}
 use Rattle.pop_words.specs.Vars.{vars_of, Named, AreVariables}
-use Rattle.pop_words.specs.Walk.{words_behind, NamedBehind}
+use Rattle.pop_words.specs.WordsBehind.{words_behind, NamedBehind}
 use Rattle.pop_io.specs.declared.failure.Failure.{Failure}
 use Rattle.pop_io.specs.declared.failure.Failure.TheVariants.{Fault, NoMemory}
 use Rattle.pop_words.specs.declared.vars.NoVars.{NoVars}
