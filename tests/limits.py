@@ -37,7 +37,8 @@ WANTED = {
         "SET_LIMIT",
     ),
     "pop_crowd": ("AGENT_LEAST", "AGENT_LIMIT"),
-    "pop_words": ("TURN_LIMIT", "MEETING_LIMIT", "SEED_LIMIT", "WATCHED_WORKERS", "DEMO_LIMIT"),
+    "run_spec": ("TURN_LIMIT", "MEETING_LIMIT", "SEED_LIMIT", "WATCHED_WORKERS"),
+    "pop_words": ("DEMO_LIMIT",),
 }
 CONSTANT = re.compile(r"((?:^/// .*\n)+)^pub const ([A-Z_]+): \w+ = ([0-9_]+(?: << [0-9]+)?);", re.MULTILINE)
 PAGE = TOP / "docs" / "reference" / "limits.md"

@@ -11,7 +11,7 @@ use Rattle.pop_net.specs.Terminal.{IsTerminal}
 use Rattle.pop_crowd.specs.declared.crowd.Meeting.{Meeting}
 use Rattle.pop_crowd.specs.Replay.{replay, AreMarked}
 use Rattle.pop_crowd.proofs.InARow.{replay_append}
-use Rattle.pop_words.specs.declared.spec.RunSpec.{RunSpec}
+use Rattle.run_spec.specs.declared.spec.RunSpec.{RunSpec}
 use Rattle.pair_workers.specs.Picks.{picks, picks_from, words_from, first_state}
 use Rattle.pair_workers.specs.Run.{IsRunUntil, IsRound, joined, pairs, meetings_of, turns_in}
 use Rattle.pair_workers.specs.Played.{IsPlayed}

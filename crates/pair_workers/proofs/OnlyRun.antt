@@ -12,7 +12,7 @@ use Rattle.pop_net.specs.Terminal.{IsTerminal}
 use Rattle.pop_net.specs.Reaction.{after_meeting}
 use Rattle.pop_crowd.specs.declared.crowd.Meeting.{Meeting}
 use Rattle.pop_crowd.specs.Replay.{replay, changes, AreMarked}
-use Rattle.pop_words.specs.declared.spec.RunSpec.{RunSpec}
+use Rattle.run_spec.specs.declared.spec.RunSpec.{RunSpec}
 use Rattle.pair_workers.specs.Picks.{pick_of, picks_from, words_from, first_state}
 use Rattle.pair_workers.specs.Run.{IsRunUntil, IsRound, joined, pairs, turns_in}
 use Rattle.pair_workers.specs.OneRun.{IsOnlyRunUntil}

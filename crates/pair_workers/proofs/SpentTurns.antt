@@ -6,7 +6,7 @@ use Rattle.std.proofs.Math.Nat.{min-eq_left, le-min}
 use Rattle.std.proofs.lemmas.List.{length-append}
 use Rattle.std.proofs.lemmas.List.Elements.{filter-append}
 use Rattle.pop_crowd.specs.declared.crowd.Meeting.{Meeting}
-use Rattle.pop_words.specs.declared.spec.RunSpec.{RunSpec}
+use Rattle.run_spec.specs.declared.spec.RunSpec.{RunSpec}
 use Rattle.pair_workers.specs.Run.{IsRound, joined, meetings_of, made_by, turns_in}
 use Rattle.pair_workers.specs.WatchedRun.{IsWatchedRound, AreSpent}
 

@@ -2,7 +2,7 @@
 use Rattle.std.proofs.Common.{ℕ, ◌+◌, List, arith}
 use Rattle.pop_net.specs.NetModel.{NetModel, CrowdModel}
 use Rattle.pop_crowd.specs.declared.crowd.Meeting.{Meeting}
-use Rattle.pop_words.specs.declared.spec.RunSpec.{RunSpec}
+use Rattle.run_spec.specs.declared.spec.RunSpec.{RunSpec}
 use Rattle.pair_workers.specs.Run.{IsRunUntil, IsRound}
 use Rattle.pair_workers.specs.WatchedRun.{IsWatchedRound, IsWatchedRunUntil}
 use Rattle.pair_workers.proofs.SpentTurns.{over_by_meetings}

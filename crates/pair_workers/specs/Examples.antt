@@ -3,7 +3,7 @@ use Rattle.std.specs.Prelude.{◌≡◌, ℕ, [], ◌∷◌, true}
 use Rattle.pop_net.specs.InputCrowd.{input_crowd}
 use Rattle.pop_net.specs.ExampleNets.{majority}
 use Rattle.pop_crowd.specs.declared.crowd.Meeting.{Meeting}
-use Rattle.pop_words.specs.declared.spec.RunSpec.{RunSpec}
+use Rattle.run_spec.specs.declared.spec.RunSpec.{RunSpec}
 use Rattle.pair_workers.specs.Picks.{first_state, picks}
 use Rattle.pair_workers.specs.Run.{IsRun}
 use Rattle.rand_xoshiro.specs.Xoshiro256.{plus_plus}

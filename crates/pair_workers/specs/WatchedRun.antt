@@ -5,9 +5,9 @@ use Rattle.pop_net.specs.Step.{Step}
 use Rattle.pop_net.specs.Terminal.{IsTerminal}
 use Rattle.pop_crowd.specs.declared.crowd.Meeting.{Meeting}
 use Rattle.pop_crowd.specs.Replay.{replay, AreMarked}
-use Rattle.pop_words.specs.declared.spec.RunSpec.{RunSpec}
-use Rattle.pop_words.specs.declared.kind.RunKind.{RunKind}
-use Rattle.pop_words.specs.declared.kind.RunKind.TheVariants.{Whole, Watched}
+use Rattle.run_spec.specs.declared.spec.RunSpec.{RunSpec}
+use Rattle.run_spec.specs.declared.kind.RunKind.{RunKind}
+use Rattle.run_spec.specs.declared.kind.RunKind.TheVariants.{Whole, Watched}
 use Rattle.pair_workers.specs.Picks.{picks}
 use Rattle.pair_workers.specs.Run.{IsRound, IsRunUntil, meetings_of, made_by, pairs, joined, turns_in}
 

@@ -15,7 +15,7 @@ use agent_field::Layout;
 use pop_crowd::Crowd;
 use pop_io::{Gate, List, NoMemory};
 use pop_net::Net;
-use pop_words::{RunSpec, SEED_LIMIT};
+use run_spec::{RunSpec, SEED_LIMIT};
 use std::alloc::Global;
 use std::sync::Wait;
 use std::thread::Threads;

@@ -14,7 +14,7 @@ use crate::run_loop::{RoundSink, run_into};
 use pop_crowd::{Crowd, Meeting};
 use pop_io::{Gate, List, NoMemory};
 use pop_net::Net;
-use pop_words::RunSpec;
+use run_spec::RunSpec;
 use std::alloc::Global;
 
 /// The most meetings of a worker in a round.

@@ -1,11 +1,11 @@
 //! What a run has from its beginning to its end, and what the workers of a round do.
 
-ghost use Rattle.pop_words.specs.Options.{IsWithinLimits};
+ghost use Rattle.run_spec.specs.RunLimits.{IsWithinLimits};
 ghost use Rattle.pair_workers.specs.SameLanes.{HaveSameLanes};
 
 use crate::signals::Signals;
 use pop_net::Net;
-use pop_words::RunSpec;
+use run_spec::RunSpec;
 
 /// The net that a run's agents meet by, the net in which the run is over once its crowd is terminal, its options, and
 /// its gate.

@@ -7,9 +7,9 @@ ghost use Rattle.pair_workers.specs.Picks.{words_from, first_state, picks_from, 
 use crate::divisor::Divisor;
 use pop_crowd::AGENT_LEAST;
 use pop_io::NoMemory;
-use pop_words::SEED_LIMIT;
 use rand_core::{Rng, SeedableRng};
 use rand_xoshiro::Xoshiro256PlusPlus;
+use run_spec::SEED_LIMIT;
 use std::marker::Model;
 
 /// A worker's random words; contracts see the state. Xoshiro256++ is a generator of

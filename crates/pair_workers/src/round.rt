@@ -2,7 +2,7 @@
 
 ghost use Rattle.std.specs.Prelude.{◌≡◌, All, IfOk, MatchResult};
 ghost use Rattle.agent_field.specs.Layouts.{Serves};
-ghost use Rattle.pop_words.specs.Options.{IsWithinLimits};
+ghost use Rattle.run_spec.specs.RunLimits.{IsWithinLimits};
 ghost use Rattle.pair_workers.specs.CrowdSize.{IsCrowdSize};
 ghost use Rattle.pair_workers.specs.Turns.{CanMakeRound, IsRoundFrom, IsWholeRound};
 ghost use Rattle.pair_workers.specs.Work.{MayWork, HasWorked, HaveWorked, agents_of_field};
@@ -19,7 +19,7 @@ use agent_field::{Field, Layout, Round};
 use pop_crowd::Crowd;
 use pop_io::{Gate, List, NoMemory};
 use pop_net::Net;
-use pop_words::RunSpec;
+use run_spec::RunSpec;
 use std::alloc::Global;
 use std::sync::Wait;
 use std::thread::{Threads, join_mut};

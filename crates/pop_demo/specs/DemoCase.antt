@@ -2,7 +2,7 @@
 use Rattle.std.specs.Prelude.{ℕ, if◌then◌else◌, ◌==◌, ◌+◌, ◌/◌, ◌%◌, List, [], ◌∷◌, codes, ℤ, pos, negsuc, ◌-ℤ◌}
 use Rattle.pres_ast.specs.PredTree.{PredTree, LessThan, Congruent, Negation, Conjunction, Disjunction}
 use Rattle.pres_ast.specs.PredModel.{PredModel}
-use Rattle.pop_words.specs.declared.spec.RunSpec.{RunSpec}
+use Rattle.run_spec.specs.declared.spec.RunSpec.{RunSpec}
 
 abbrev pub names_of_demo : List (List ℕ)
 names_of_demo = codes "x" ∷ codes "y" ∷ []

@@ -1,11 +1,12 @@
 //! The run of a case.
 
 ghost use Rattle.std.specs.Prelude.{◌≡◌, ◌≤◌};
-ghost use Rattle.pop_words.specs.Options.{IsWithinLimits};
-ghost use Rattle.pop_words.specs.declared.spec.TheConstants.{DEMO_LIMIT};
+ghost use Rattle.run_spec.specs.RunLimits.{IsWithinLimits};
+ghost use Rattle.pop_words.specs.declared.command.TheConstants.{DEMO_LIMIT};
 ghost use Rattle.pop_demo.specs.DemoCase.{demo_spec};
 
-use pop_words::{DEMO_LIMIT, RunSpec};
+use pop_words::DEMO_LIMIT;
+use run_spec::RunSpec;
 
 /// The run of the case with this number: by one worker, with the number as its seed.
 pub fn demo_run(number: u32) -> RunSpec

@@ -7,7 +7,7 @@ use Rattle.pop_lines.specs.Lines.{lines_of}
 use Rattle.pop_net.specs.NetModel.{NetModel, CrowdModel}
 use Rattle.pop_crowd.specs.declared.crowd.Meeting.{Meeting}
 use Rattle.pop_crowd.specs.Replay.{replay}
-use Rattle.pop_words.specs.declared.spec.RunSpec.{RunSpec}
+use Rattle.run_spec.specs.declared.spec.RunSpec.{RunSpec}
 use Rattle.pair_workers.specs.Run.{joined}
 use Rattle.pop_journal.specs.Journal.{meeting_line}
 use Rattle.pop_journal.specs.Ending.{is_terminal, least_pair, common_output, ending_with, ending_until, last_is_undecided}

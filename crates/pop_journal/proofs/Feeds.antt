@@ -4,11 +4,11 @@ use Rattle.std.proofs.lemmas.List.Elements.{All-head, All-tail}
 use Rattle.pop_lines.specs.Lines.{lines_of, ended}
 use Rattle.pop_lines.proofs.Unbroken.{IsUnbroken, line_first, both_unbroken, decimal_unbroken}
 use Rattle.pop_crowd.specs.declared.crowd.Meeting.{Meeting}
-use Rattle.pop_words.specs.declared.spec.RunSpec.{RunSpec}
-use Rattle.pop_words.specs.declared.kind.RunKind.{RunKind}
-use Rattle.pop_words.specs.declared.kind.RunKind.TheVariants.{Whole, Watched}
-use Rattle.pop_words.specs.Kinds.{kind_word}
-use Rattle.pop_words.specs.Options.{IsWithinLimits}
+use Rattle.run_spec.specs.declared.spec.RunSpec.{RunSpec}
+use Rattle.run_spec.specs.declared.kind.RunKind.{RunKind}
+use Rattle.run_spec.specs.declared.kind.RunKind.TheVariants.{Whole, Watched}
+use Rattle.run_spec.specs.Kinds.{kind_word}
+use Rattle.run_spec.specs.RunLimits.{IsWithinLimits}
 use Rattle.pair_workers.specs.Run.{joined}
 use Rattle.pop_journal.specs.Journal.{run_line, round_line, meeting_line, round_lines, run_lines, text_of}
 use Rattle.pop_journal.proofs.Spelled.{IsSmall, mark_of}
@@ -64,8 +64,8 @@ run_unbroken kind spec limits =
     (both_unbroken ((first ++ decimal spec.workers) ++ (codes " shards " ++ decimal spec.shards)) (codes " turns " ++ decimal spec.turns)
     (both_unbroken (first ++ decimal spec.workers) (codes " shards " ++ decimal spec.shards)
     (both_unbroken first (decimal spec.workers) (first_unbroken kind) (decimal_unbroken spec.workers (omega (arith, limits.workers.1)))) (decimal_unbroken spec.shards (omega (arith, limits.shards.1))))
-    (decimal_unbroken spec.turns (omega (arith, limits.turns.1))))
-    (decimal_unbroken spec.seed (omega (arith, limits.seed.1)))
+    (decimal_unbroken spec.turns (omega (arith, limits.turns))))
+    (decimal_unbroken spec.seed (omega (arith, limits.seed)))
 
 -- the lines up to `end`
 pub lines_unbroken : (kind : RunKind) (spec : RunSpec) (rounds : List (List Meeting)) → IsWithinLimits spec → length rounds ≤ 2 ^ 62 → All IsSmall (joined rounds) → AreUnbroken (run_lines kind spec rounds)

@@ -13,9 +13,9 @@ use Rattle.pop_lines.specs.Numbers.{has_no_leading_zero, number_of, printed_numb
 use Rattle.pop_lines.proofs.Printed.{printed-number_of}
 use Rattle.pop_crowd.specs.declared.crowd.Meeting.{Meeting}
 use Rattle.pop_crowd.specs.Replay.{IsMeeting, AreMeetings}
-use Rattle.pop_words.specs.declared.spec.RunSpec.{RunSpec}
-use Rattle.pop_words.specs.declared.kind.RunKind.{RunKind}
-use Rattle.pop_words.specs.declared.kind.RunKind.TheVariants.{Whole, Watched}
+use Rattle.run_spec.specs.declared.spec.RunSpec.{RunSpec}
+use Rattle.run_spec.specs.declared.kind.RunKind.{RunKind}
+use Rattle.run_spec.specs.declared.kind.RunKind.TheVariants.{Whole, Watched}
 use Rattle.pair_workers.specs.Run.{meetings_of, turns_in, joined, IsRound}
 use Rattle.pair_workers.specs.WatchedRun.{IsWatchedRound}
 use Rattle.pair_workers.proofs.Rounds.{get_pushed, joined_push}

@@ -4,7 +4,7 @@ use Rattle.std.specs.Prelude.{IfSome, find, slice_get}
 use Rattle.std.specs.List.{range_with_len}
 use Rattle.std.proofs.lemmas.Bool.{ltb-true, ltb-false}
 use Rattle.pop_crowd.specs.declared.crowd.Meeting.{Meeting}
-use Rattle.pop_words.specs.declared.spec.RunSpec.{RunSpec}
+use Rattle.run_spec.specs.declared.spec.RunSpec.{RunSpec}
 use Rattle.pair_workers.specs.Run.{IsRound, joined, made_by, turns_in}
 use Rattle.pair_workers.specs.WatchedRun.{IsWatchedRound, AreSpent}
 use Rattle.pair_workers.proofs.SpentTurns.{HasTurns, joined_made, turns_on, first_turns, next_turns, made_most, has_turns}

@@ -9,9 +9,9 @@ use Rattle.std.proofs.Math.Nat.{mul-le-mul}
 use Rattle.pop_lines.proofs.Printed.{printed_number_of-decimal}
 use Rattle.pop_crowd.specs.declared.crowd.Meeting.{Meeting}
 use Rattle.pop_crowd.specs.Replay.{IsMeeting}
-use Rattle.pop_words.specs.declared.spec.RunSpec.{RunSpec}
-use Rattle.pop_words.specs.declared.kind.RunKind.{RunKind}
-use Rattle.pop_words.specs.declared.kind.RunKind.TheVariants.{Whole, Watched}
+use Rattle.run_spec.specs.declared.spec.RunSpec.{RunSpec}
+use Rattle.run_spec.specs.declared.kind.RunKind.{RunKind}
+use Rattle.run_spec.specs.declared.kind.RunKind.TheVariants.{Whole, Watched}
 use Rattle.pair_workers.specs.Run.{meetings_of, turns_in, joined, IsRound}
 use Rattle.pair_workers.specs.WatchedRun.{IsWatchedRound}
 use Rattle.pair_workers.proofs.WholeWatched.{watched_round}

@@ -5,10 +5,10 @@ use Rattle.std.proofs.lemmas.List.Elements.{All-head, All-nil, All-cons}
 use Rattle.pop_net.specs.NetModel.{NetModel, CrowdModel}
 use Rattle.pop_crowd.specs.declared.crowd.Meeting.{Meeting}
 use Rattle.pop_crowd.specs.Replay.{IsMeeting, AreMeetings}
-use Rattle.pop_words.specs.declared.spec.RunSpec.{RunSpec}
-use Rattle.pop_words.specs.declared.kind.RunKind.{RunKind}
-use Rattle.pop_words.specs.declared.kind.RunKind.TheVariants.{Whole, Watched}
-use Rattle.pop_words.specs.Kinds.{most_workers_of}
+use Rattle.run_spec.specs.declared.spec.RunSpec.{RunSpec}
+use Rattle.run_spec.specs.declared.kind.RunKind.{RunKind}
+use Rattle.run_spec.specs.declared.kind.RunKind.TheVariants.{Whole, Watched}
+use Rattle.run_spec.specs.Kinds.{most_workers_of}
 use Rattle.pair_workers.specs.Picks.{words_from, first_state}
 use Rattle.pair_workers.specs.Run.{IsRunUntil, joined, meetings_of}
 use Rattle.pair_workers.specs.WatchedRun.{IsWatchedRound, IsWatchedRunUntil, IsRunOf, IsRunOfUntil}

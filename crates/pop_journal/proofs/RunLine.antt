@@ -10,12 +10,12 @@ use Rattle.pop_io.specs.declared.gate.TheConstants.{SHARD_LIMIT}
 use Rattle.pop_lines.specs.Lines.{pieces}
 use Rattle.pop_lines.specs.Numbers.{has_no_leading_zero, number_of, number_of_within, printed_number_of_within}
 use Rattle.pop_lines.proofs.Printed.{printed-number_of, printed_number_of-decimal}
-use Rattle.pop_words.specs.declared.spec.TheConstants.{TURN_LIMIT, MEETING_LIMIT, SEED_LIMIT}
-use Rattle.pop_words.specs.declared.spec.RunSpec.{RunSpec}
-use Rattle.pop_words.specs.declared.kind.RunKind.{RunKind}
-use Rattle.pop_words.specs.declared.kind.RunKind.TheVariants.{Whole, Watched}
-use Rattle.pop_words.specs.Kinds.{kind_word, most_workers_of}
-use Rattle.pop_words.specs.Options.{IsWithinLimits}
+use Rattle.run_spec.specs.declared.spec.TheConstants.{TURN_LIMIT, MEETING_LIMIT, SEED_LIMIT}
+use Rattle.run_spec.specs.declared.spec.RunSpec.{RunSpec}
+use Rattle.run_spec.specs.declared.kind.RunKind.{RunKind}
+use Rattle.run_spec.specs.declared.kind.RunKind.TheVariants.{Whole, Watched}
+use Rattle.run_spec.specs.Kinds.{kind_word, most_workers_of}
+use Rattle.run_spec.specs.RunLimits.{IsWithinLimits}
 use Rattle.pop_journal.specs.Journal.{run_line}
 use Rattle.pop_journal.specs.Form.{number_named, at_the_end, spec_words, spec_in}
 use Rattle.pop_journal.proofs.RunKinds.{few_workers}
@@ -115,7 +115,7 @@ words_are kind (first ∷ words) spec e =
     let shards = named_is (codes "shards") 1 SHARD_LIMIT w.0.1 s.0.0 s.0.1 (omega arith) s.1 in
     let turns = named_is (codes "turns") 0 TURN_LIMIT s.0.1 t.0.0 t.0.1 (omega arith) t.1 in
     let seed = named_is (codes "seed") 0 SEED_LIMIT t.0.1 n.0.0 n.0.1 (omega arith) n.1 in
-    let limits : IsWithinLimits read = record { workers = (workers.1.0, few w.0.0 workers.1.1); shards = shards.1; turns = turns.1; seed = seed.1 } in
+    let limits : IsWithinLimits read = record { workers = (workers.1.0, few w.0.0 workers.1.1); shards = shards.1; turns = turns.1.1; seed = seed.1.1 } in
     let all : first ∷ words ≡ words_of kind read =
     ap (λ (f : List ℕ). f ∷ words) ((bytes_eq-Decides first (kind_word kind)).0 run.0)
     ∙ ap (λ (ws : List (List ℕ)). kind_word kind ∷ ws)
@@ -143,8 +143,8 @@ numbers_cut spec limits =
     ∙ ap (λ (ws : List (List ℕ)). decimal spec.workers ∷ codes "shards" ∷ ws)
     (cut_number spec.shards _ (omega (arith, limits.shards.1))
     ∙ ap (λ (ws : List (List ℕ)). decimal spec.shards ∷ codes "turns" ∷ ws)
-    (cut_number spec.turns _ (omega (arith, limits.turns.1))
-    ∙ ap (λ (ws : List (List ℕ)). decimal spec.turns ∷ codes "seed" ∷ ws) (slice_split_none space n (decimal_no_space spec.seed (omega (arith, limits.seed.1))))))
+    (cut_number spec.turns _ (omega (arith, limits.turns))
+    ∙ ap (λ (ws : List (List ℕ)). decimal spec.turns ∷ codes "seed" ∷ ws) (slice_split_none space n (decimal_no_space spec.seed (omega (arith, limits.seed))))))
 
 words_cut : (kind : RunKind) (spec : RunSpec) → IsWithinLimits spec → pieces 32 (run_line kind spec) ≡ words_of kind spec
 words_cut Whole spec limits = ap (pieces 32) (run_right Whole spec) ∙ ap (λ (ws : List (List ℕ)). codes "run" ∷ codes "workers" ∷ ws) (numbers_cut spec limits)
@@ -171,7 +171,7 @@ spec_back kind spec limits hands few =
       (bytes_eq-Decides (kind_word kind) (kind_word kind)).1 refl,
       named_back (codes "workers") 1 (most_workers_of kind) spec.workers _ limits.workers.0 hands (omega (arith, limits.workers.1)),
       named_back (codes "shards") 1 SHARD_LIMIT spec.shards _ limits.shards.0 limits.shards.1 (omega (arith, limits.shards.1)),
-      named_back (codes "turns") 0 TURN_LIMIT spec.turns _ limits.turns.0 limits.turns.1 (omega (arith, limits.turns.1)),
-      named_back (codes "seed") 0 SEED_LIMIT spec.seed _ limits.seed.0 limits.seed.1 (omega (arith, limits.seed.1)),
+      named_back (codes "turns") 0 TURN_LIMIT spec.turns _ (omega arith) limits.turns (omega (arith, limits.turns)),
+      named_back (codes "seed") 0 SEED_LIMIT spec.seed _ (omega arith) limits.seed (omega (arith, limits.seed)),
       le-leb (spec.workers * spec.turns) MEETING_LIMIT few,
     ) refl

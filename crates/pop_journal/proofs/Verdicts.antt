@@ -10,7 +10,7 @@ use Rattle.pop_lines.specs.Lines.{lines_of}
 use Rattle.pop_crowd.specs.declared.limits.TheConstants.{AGENT_LEAST, AGENT_LIMIT}
 use Rattle.pop_crowd.specs.Replay.{replay}
 use Rattle.pop_crowd.proofs.Words.{crowd_tuples}
-use Rattle.pop_words.specs.Options.{IsWithinLimits}
+use Rattle.run_spec.specs.RunLimits.{IsWithinLimits}
 use Rattle.pair_workers.specs.Run.{joined}
 use Rattle.pair_workers.specs.WatchedRun.{IsWatchedRunUntil}
 use Rattle.pair_workers.specs.SameLanes.{HaveSameLanes}

@@ -10,11 +10,11 @@ use Rattle.pop_crowd.specs.declared.limits.TheConstants.{AGENT_LIMIT}
 use Rattle.pop_crowd.specs.declared.crowd.Meeting.{Meeting}
 use Rattle.pop_crowd.specs.Replay.{IsMeeting}
 use Rattle.pop_crowd.specs.Tally.{crowd_lines}
-use Rattle.pop_words.specs.declared.spec.TheConstants.{MEETING_LIMIT}
-use Rattle.pop_words.specs.declared.spec.RunSpec.{RunSpec}
-use Rattle.pop_words.specs.declared.kind.RunKind.{RunKind}
-use Rattle.pop_words.specs.Kinds.{most_workers_of}
-use Rattle.pop_words.specs.Options.{IsWithinLimits}
+use Rattle.run_spec.specs.declared.spec.TheConstants.{MEETING_LIMIT}
+use Rattle.run_spec.specs.declared.spec.RunSpec.{RunSpec}
+use Rattle.run_spec.specs.declared.kind.RunKind.{RunKind}
+use Rattle.run_spec.specs.Kinds.{most_workers_of}
+use Rattle.run_spec.specs.RunLimits.{IsWithinLimits}
 use Rattle.pair_workers.specs.Run.{joined}
 use Rattle.pair_workers.specs.WatchedRun.{IsWatchedRound, IsWatchedRunUntil, IsRunOf, IsRunOfUntil}
 use Rattle.pop_journal.specs.declared.journal.Journal.{Journal}
@@ -117,7 +117,7 @@ early spec k r few round =
 pub few_meetings : (kind : RunKind) (spec : RunSpec) (agents : ℕ) (rounds : List (List Meeting)) → IsWithinLimits spec → AreRoundsOf kind spec agents rounds → length (joined rounds) < 2 ^ 64
 few_meetings kind spec agents rounds limits form =
     let watched = are_watched spec agents rounds kind form in
-    let bound = few_rounds rounds 245 (λ k r h. early spec k r limits.turns.1 (watched.each k r h)) in
+    let bound = few_rounds rounds 245 (λ k r h. early spec k r limits.turns (watched.each k r h)) in
     let long = long_rounds spec 0 rounds limits.workers.1 (λ i r h. subst (λ (n : ℕ). IsWatchedRound spec n r) (let e : i + 1 ≡ 0 + i + 1 = omega arith in e) (watched.each i r h)) in
     omega (arith, bound, long)
 
@@ -136,7 +136,7 @@ module _ (rest : NetModel) (outcome : Outcome) (kind : RunKind) (net : NetModel)
 
   not_many : length rounds ≤ 2 ^ 62
   not_many =
-      let bound = few_rounds rounds 245 (λ k r h. early spec k r limits.turns.1 (watched.each k r h)) in omega (arith, bound)
+      let bound = few_rounds rounds 245 (λ k r h. early spec k r limits.turns (watched.each k r h)) in omega (arith, bound)
 
   pub cut_until : lines_of (journal_text kind net spec rounds end (ending_until rest outcome net end)) ≡ run_line kind spec ∷ (round_lines 1 rounds ++ codes "end" ∷ tail)
   cut_until =

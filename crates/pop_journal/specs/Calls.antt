@@ -3,9 +3,9 @@ use Rattle.std.specs.Prelude.{◌≡◌, ℕ, ◌+◌, ◌≤◌, List, ◌∷�
 use Rattle.pop_net.specs.NetModel.{NetModel}
 use Rattle.pop_net.specs.declared.net.Word.{Word}
 use Rattle.pop_net.specs.Lanes.{crowd_of, AreValid}
-use Rattle.pop_words.specs.declared.kind.RunKind.{RunKind}
-use Rattle.pop_words.specs.Kinds.{most_workers_of}
-use Rattle.pop_words.specs.Options.{IsWithinLimits}
+use Rattle.run_spec.specs.declared.kind.RunKind.{RunKind}
+use Rattle.run_spec.specs.Kinds.{most_workers_of}
+use Rattle.run_spec.specs.RunLimits.{IsWithinLimits}
 use Rattle.pair_workers.specs.Run.{joined}
 use Rattle.pop_journal.specs.declared.fault.JournalFault.{JournalFault}
 use Rattle.pop_journal.specs.declared.fault.VerifyFault.{VerifyFault}

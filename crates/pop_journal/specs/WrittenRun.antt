@@ -3,8 +3,8 @@ use Rattle.std.specs.Prelude.{◌≡◌, ℕ, List, ◌++◌}
 use Rattle.pop_net.specs.NetModel.{NetModel}
 use Rattle.pop_net.specs.declared.net.Word.{Word}
 use Rattle.pop_crowd.specs.declared.crowd.Meeting.{Meeting}
-use Rattle.pop_words.specs.declared.kind.RunKind.TheVariants.{Whole}
-use Rattle.pop_words.specs.declared.spec.RunSpec.{RunSpec}
+use Rattle.run_spec.specs.declared.kind.RunKind.TheVariants.{Whole}
+use Rattle.run_spec.specs.declared.spec.RunSpec.{RunSpec}
 use Rattle.pair_workers.specs.declared.alone.End.{End}
 use Rattle.pair_workers.specs.OneRun.{IsOnlyRunFromUntil}
 use Rattle.pop_journal.specs.Journal.{run_lines, text_of}

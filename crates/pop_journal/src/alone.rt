@@ -8,7 +8,7 @@ use crate::sink::WrittenRounds;
 use pair_workers::{End, RunContext, run_into};
 use pop_crowd::Crowd;
 use pop_io::{Gate, NoMemory};
-use pop_words::RunKind;
+use run_spec::RunKind;
 use std::alloc::Global;
 
 /// Makes a run by the worker 0 alone, as `run_alone`, and adds its lines up to `end` to a text. The run is over once no

@@ -8,8 +8,8 @@ ghost use Rattle.pop_journal.specs.ReadLines.{first_ends};
 ghost use Rattle.pop_journal.specs.Form.{Tells, told_in, three_numbers, meeting_told, onward, number_named};
 ghost use Rattle.pop_journal.specs.Form.{at_the_end, number_first, turns_named, spec_named, spec_in};
 ghost use Rattle.pop_words.specs.WordsBehind.{words_behind};
-ghost use Rattle.pop_words.specs.Kinds.{most_workers_of};
-ghost use Rattle.pop_words.specs.Options.{IsWithinLimits};
+ghost use Rattle.run_spec.specs.Kinds.{most_workers_of};
+ghost use Rattle.run_spec.specs.RunLimits.{IsWithinLimits};
 ghost use Rattle.std.specs.Option.{option_copied};
 
 use crate::fault::JournalWhy;
@@ -18,7 +18,7 @@ use crate::short::short_meeting;
 use pop_crowd::Meeting;
 use pop_io::{SHARD_LIMIT, WORKER_LIMIT};
 use pop_lines::{cut, next_line, printed_number, printed_within};
-use pop_words::{MEETING_LIMIT, RunKind, RunSpec, SEED_LIMIT, TURN_LIMIT};
+use run_spec::{MEETING_LIMIT, RunKind, RunSpec, SEED_LIMIT, TURN_LIMIT};
 
 /// The numbers of a meeting line, of any size, and whether it has a mark.
 #[derive(Clone, Copy)]

@@ -2,7 +2,7 @@
 
 use pop_crowd::Meeting;
 use pop_io::List;
-use pop_words::{RunKind, RunSpec};
+use run_spec::{RunKind, RunSpec};
 
 /// The greatest number of a journal's first line.
 pub const LINE_LIMIT: u64 = 1_099_511_627_776;

@@ -12,7 +12,7 @@ use crate::limits::ROUND_LIMIT;
 use pair_workers::ROUND_TURNS;
 use pop_crowd::Meeting;
 use pop_io::List;
-use pop_words::RunSpec;
+use run_spec::RunSpec;
 use std::alloc::{AllocError, Global};
 
 /// How many of these meetings each worker has made.

@@ -4,7 +4,7 @@ use crate::journal::LINE_LIMIT;
 use pair_workers::ROUND_TURNS;
 use pop_io::WORKER_LIMIT;
 use pop_lines::NUMBER_ROOM;
-use pop_words::TURN_LIMIT;
+use run_spec::TURN_LIMIT;
 
 /// The most rounds of a run: no worker makes more than `TURN_LIMIT` meetings.
 pub(crate) const ROUND_LIMIT: u64 = (TURN_LIMIT + ROUND_TURNS - 1) / ROUND_TURNS;

@@ -6,8 +6,8 @@ ghost use Rattle.std.specs.Str.{bytes_eq};
 ghost use Rattle.pop_journal.specs.Calls.{IsReadFrom};
 ghost use Rattle.pop_journal.specs.Journal.{round_line};
 ghost use Rattle.pop_lines.specs.Lines.{lines_of};
-ghost use Rattle.pop_words.specs.Kinds.{most_workers_of};
-ghost use Rattle.pop_words.specs.Options.{IsWithinLimits};
+ghost use Rattle.run_spec.specs.Kinds.{most_workers_of};
+ghost use Rattle.run_spec.specs.RunLimits.{IsWithinLimits};
 ghost use Rattle.pair_workers.specs.Run.{turns_in};
 ghost use Rattle.pop_journal.specs.declared.fault.JournalFault.TheVariants.{Out};
 ghost use Rattle.pop_io.specs.declared.failure.Failure.TheVariants.{Fault};
@@ -23,7 +23,7 @@ use pair_workers::ROUND_TURNS;
 use pop_crowd::Meeting;
 use pop_io::{Failure, List, WORKER_LIMIT};
 use pop_lines::next_line;
-use pop_words::RunKind;
+use run_spec::RunKind;
 use std::alloc::{AllocError, Global};
 
 /// How the lines of a round end.

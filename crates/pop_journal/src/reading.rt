@@ -1,8 +1,8 @@
 //! What the lines of a journal are read by, and where a reader stands.
 
-ghost use Rattle.pop_words.specs.Options.{IsWithinLimits};
+ghost use Rattle.run_spec.specs.RunLimits.{IsWithinLimits};
 
-use pop_words::{RunKind, RunSpec};
+use run_spec::{RunKind, RunSpec};
 
 /// The kind of a journal's run, its options, and how many agents it has.
 #[derive(Clone, Copy)]

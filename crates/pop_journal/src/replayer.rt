@@ -74,7 +74,7 @@ impl Replayer {
     ghost use Rattle.pop_net.specs.Lanes.{AreValid};
     ghost use Rattle.pop_crowd.specs.Replay.{AreMeetings};
     ghost use Rattle.pop_crowd.specs.declared.crowd.Meeting.{Meeting};
-    ghost use Rattle.pop_words.specs.declared.spec.RunSpec.{RunSpec};
+    ghost use Rattle.run_spec.specs.declared.spec.RunSpec.{RunSpec};
     ghost use Rattle.pop_journal.specs.Ending.{ending_until};
     ghost use Rattle.pop_journal.specs.declared.last.Outcome.{Outcome};
     ghost use Rattle.pair_workers.specs.Run.{turns_in};

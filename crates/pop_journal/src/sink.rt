@@ -5,7 +5,7 @@ use crate::write::{push_round, push_run_line};
 use pair_workers::RoundSink;
 use pop_crowd::Meeting;
 use pop_io::NoMemory;
-use pop_words::{RunKind, RunSpec};
+use run_spec::{RunKind, RunSpec};
 use std::alloc::Global;
 
 /// A text to which the lines of each round are added.
@@ -18,7 +18,7 @@ pub struct WrittenRounds {
 impl WrittenRounds {
     ghost use Rattle.std.specs.Prelude.{◌≡◌, ◌++◌, codes, IfOk};
     ghost use Rattle.pop_lines.specs.Lines.{ended};
-    ghost use Rattle.pop_words.specs.Options.{IsWithinLimits};
+    ghost use Rattle.run_spec.specs.RunLimits.{IsWithinLimits};
     ghost use Rattle.pop_journal.specs.Journal.{run_line};
 
     /// A text and the first line of a run by so many agents.

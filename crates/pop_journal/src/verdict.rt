@@ -3,7 +3,7 @@
 ghost use Rattle.std.specs.Prelude.{◌≡◌, ◌≤◌, ◌+◌, [], length, IfOk};
 ghost use Rattle.pop_net.specs.Lanes.{crowd_of, AreValid};
 ghost use Rattle.terminal_test.specs.TableNet.{table_net};
-ghost use Rattle.pop_words.specs.Options.{IsWithinLimits};
+ghost use Rattle.run_spec.specs.RunLimits.{IsWithinLimits};
 ghost use Rattle.pair_workers.specs.CrowdSize.{IsCrowdSize};
 ghost use Rattle.pair_workers.specs.SameLanes.{HaveSameLanes};
 ghost use Rattle.pair_workers.specs.Run.{joined};
@@ -23,7 +23,7 @@ use pair_workers::first_pickers;
 use pop_crowd::Crowd;
 use pop_io::{Failure, NoMemory};
 use pop_net::Net;
-use pop_words::{RunSpec, SEED_LIMIT};
+use run_spec::{RunSpec, SEED_LIMIT};
 use std::alloc::Global;
 use terminal_test::PairTable;
 

@@ -14,8 +14,8 @@ use Rattle.pop_crowd.proofs.Reached.{length-replay}
 use Rattle.pop_crowd.specs.Crowds.{input_size}
 use Rattle.pop_crowd.specs.declared.crowd.Meeting.{Meeting}
 use Rattle.pop_crowd.specs.declared.limits.TheConstants.{AGENT_LEAST, AGENT_LIMIT}
-use Rattle.pop_words.specs.declared.kind.RunKind.{RunKind}
-use Rattle.pop_words.specs.declared.spec.RunSpec.{RunSpec}
+use Rattle.run_spec.specs.declared.kind.RunKind.{RunKind}
+use Rattle.run_spec.specs.declared.spec.RunSpec.{RunSpec}
 use Rattle.pair_workers.specs.Run.{joined}
 use Rattle.pair_workers.specs.SameLanes.{HaveSameLanes}
 use Rattle.pair_workers.specs.WatchedRun.{IsRunOfUntil}

@@ -7,9 +7,9 @@ use Rattle.pop_lines.specs.Lines.{ended}
 use Rattle.pop_words.specs.declared.command.Command.{Command}
 use Rattle.pop_words.specs.declared.command.Command.TheVariants.{Check, Settle, Compile, Flocks}
 use Rattle.pop_words.specs.declared.command.Command.TheVariants.{Show, Succinct}
-use Rattle.pop_words.specs.declared.kind.RunKind.{RunKind}
-use Rattle.pop_words.specs.declared.kind.RunKind.TheVariants.{Whole, Watched}
-use Rattle.pop_words.specs.declared.spec.RunSpec.{RunSpec}
+use Rattle.run_spec.specs.declared.kind.RunKind.{RunKind}
+use Rattle.run_spec.specs.declared.kind.RunKind.TheVariants.{Whole, Watched}
+use Rattle.run_spec.specs.declared.spec.RunSpec.{RunSpec}
 use Rattle.pop_words.specs.Words.{meaning_of, run_command, replay_command}
 use Rattle.cert_json.specs.declared.bundle.Bundle.{Bundle}
 use Rattle.tool_texts.specs.declared.refusal.Refusal.{Refusal}

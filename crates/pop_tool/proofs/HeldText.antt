@@ -5,11 +5,11 @@ use Rattle.pop_net.specs.NetModel.{CrowdModel}
 use Rattle.pop_net.specs.InputCrowd.{input_crowd}
 use Rattle.pop_crowd.specs.declared.crowd.Meeting.{Meeting}
 use Rattle.pop_crowd.specs.declared.limits.TheConstants.{AGENT_LIMIT}
-use Rattle.pop_words.specs.declared.kind.RunKind.{RunKind}
-use Rattle.pop_words.specs.declared.spec.RunSpec.{RunSpec}
-use Rattle.pop_words.specs.declared.spec.TheConstants.{MEETING_LIMIT}
-use Rattle.pop_words.specs.Kinds.{most_workers_of}
-use Rattle.pop_words.specs.Options.{IsWithinLimits}
+use Rattle.run_spec.specs.declared.kind.RunKind.{RunKind}
+use Rattle.run_spec.specs.declared.spec.RunSpec.{RunSpec}
+use Rattle.run_spec.specs.declared.spec.TheConstants.{MEETING_LIMIT}
+use Rattle.run_spec.specs.Kinds.{most_workers_of}
+use Rattle.run_spec.specs.RunLimits.{IsWithinLimits}
 use Rattle.pair_workers.specs.Run.{joined}
 use Rattle.pair_workers.specs.WatchedRun.{IsRunOfUntil}
 use Rattle.pop_journal.specs.declared.last.Last.{Last}

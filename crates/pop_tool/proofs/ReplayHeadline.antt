@@ -9,11 +9,11 @@ use Rattle.pop_net.specs.NetModel.{CrowdModel}
 use Rattle.pop_net.specs.InputCrowd.{input_crowd}
 use Rattle.pop_net.proofs.Tuples.{input_tuples}
 use Rattle.pop_crowd.specs.declared.limits.TheConstants.{AGENT_LEAST, AGENT_LIMIT}
-use Rattle.pop_words.specs.declared.kind.RunKind.{RunKind}
-use Rattle.pop_words.specs.declared.kind.RunKind.TheVariants.{Whole, Watched}
+use Rattle.run_spec.specs.declared.kind.RunKind.{RunKind}
+use Rattle.run_spec.specs.declared.kind.RunKind.TheVariants.{Whole, Watched}
 use Rattle.pop_words.specs.Words.{replay_command}
-use Rattle.pop_words.specs.declared.spec.RunSpec.{RunSpec}
-use Rattle.pop_words.specs.Options.{IsWithinLimits}
+use Rattle.run_spec.specs.declared.spec.RunSpec.{RunSpec}
+use Rattle.run_spec.specs.RunLimits.{IsWithinLimits}
 use Rattle.pair_workers.specs.Run.{joined}
 use Rattle.pop_journal.specs.declared.journal.Journal.{Journal}
 use Rattle.pop_journal.specs.Rounds.{AreRoundsOf}

@@ -8,12 +8,12 @@ use Rattle.pop_lines.specs.Lines.{lines_of, ended}
 use Rattle.pop_lines.proofs.Joined.{lines-joined}
 use Rattle.pop_net.specs.NetModel.{CrowdModel, IsTuple}
 use Rattle.pop_net.specs.InputCrowd.{input_crowd}
-use Rattle.pop_words.specs.declared.kind.RunKind.{RunKind}
-use Rattle.pop_words.specs.declared.kind.RunKind.TheVariants.{Whole, Watched}
-use Rattle.pop_words.specs.declared.spec.RunSpec.{RunSpec}
-use Rattle.pop_words.specs.declared.spec.TheConstants.{MEETING_LIMIT}
-use Rattle.pop_words.specs.Options.{IsWithinLimits}
-use Rattle.pop_words.specs.Kinds.{most_workers_of}
+use Rattle.run_spec.specs.declared.kind.RunKind.{RunKind}
+use Rattle.run_spec.specs.declared.kind.RunKind.TheVariants.{Whole, Watched}
+use Rattle.run_spec.specs.declared.spec.RunSpec.{RunSpec}
+use Rattle.run_spec.specs.declared.spec.TheConstants.{MEETING_LIMIT}
+use Rattle.run_spec.specs.RunLimits.{IsWithinLimits}
+use Rattle.run_spec.specs.Kinds.{most_workers_of}
 use Rattle.pop_words.specs.Words.{meaning_of, run_command, replay_command}
 use Rattle.pop_words.proofs.Limits.{run_bounded}
 use Rattle.pair_workers.specs.Run.{joined}

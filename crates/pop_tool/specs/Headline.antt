@@ -12,9 +12,9 @@ use Rattle.pop_net.specs.Step.{Step}
 use Rattle.pop_net.specs.Reachable.{Reachable}
 use Rattle.pop_net.specs.Terminal.{IsTerminal}
 use Rattle.pop_crowd.specs.declared.crowd.Meeting.{Meeting}
-use Rattle.pop_words.specs.declared.kind.RunKind.{RunKind}
-use Rattle.pop_words.specs.declared.kind.RunKind.TheVariants.{Whole, Watched}
-use Rattle.pop_words.specs.declared.spec.RunSpec.{RunSpec}
+use Rattle.run_spec.specs.declared.kind.RunKind.{RunKind}
+use Rattle.run_spec.specs.declared.kind.RunKind.TheVariants.{Whole, Watched}
+use Rattle.run_spec.specs.declared.spec.RunSpec.{RunSpec}
 use Rattle.pop_words.specs.declared.command.Command.TheVariants.{Check, Run, Watch, Replay}
 use Rattle.pop_words.specs.declared.command.Command.TheVariants.{ReplayWatched, Settle, Compile, Flocks}
 use Rattle.pop_words.specs.declared.command.Command.TheVariants.{Show, Succinct}

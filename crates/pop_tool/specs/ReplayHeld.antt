@@ -1,9 +1,9 @@
 -- A replay accepts what a run of its kind wrote.
 use Rattle.std.specs.Prelude.{◌≡◌, ℕ, ◌≤◌, List, [], ◌∷◌, length, codes, Ok}
 use Rattle.pop_io.specs.declared.whole.TheConstants.{INPUT_LIMIT}
-use Rattle.pop_words.specs.declared.kind.RunKind.{RunKind}
-use Rattle.pop_words.specs.declared.kind.RunKind.TheVariants.{Whole, Watched}
-use Rattle.pop_words.specs.declared.spec.RunSpec.{RunSpec}
+use Rattle.run_spec.specs.declared.kind.RunKind.{RunKind}
+use Rattle.run_spec.specs.declared.kind.RunKind.TheVariants.{Whole, Watched}
+use Rattle.run_spec.specs.declared.spec.RunSpec.{RunSpec}
 use Rattle.pop_words.specs.Words.{meaning_of, run_command}
 use Rattle.tool_texts.specs.declared.output.Output.{Output}
 use Rattle.tool_texts.specs.Statuses.{status_of}

@@ -4,11 +4,11 @@ use Rattle.pop_net.specs.NetModel.{NetModel, CrowdModel}
 use Rattle.pop_net.specs.Step.{Step}
 use Rattle.pop_net.specs.Terminal.{IsTerminal}
 use Rattle.terminal_test.specs.Pairs.{IsLeastPair}
-use Rattle.pop_words.specs.declared.kind.RunKind.{RunKind}
-use Rattle.pop_words.specs.declared.spec.RunSpec.{RunSpec}
-use Rattle.pop_words.specs.declared.spec.TheConstants.{MEETING_LIMIT}
-use Rattle.pop_words.specs.Options.{IsWithinLimits}
-use Rattle.pop_words.specs.Kinds.{most_workers_of}
+use Rattle.run_spec.specs.declared.kind.RunKind.{RunKind}
+use Rattle.run_spec.specs.declared.spec.RunSpec.{RunSpec}
+use Rattle.run_spec.specs.declared.spec.TheConstants.{MEETING_LIMIT}
+use Rattle.run_spec.specs.RunLimits.{IsWithinLimits}
+use Rattle.run_spec.specs.Kinds.{most_workers_of}
 use Rattle.pop_journal.specs.declared.last.Last.{Last}
 use Rattle.pop_journal.specs.declared.last.Last.TheVariants.{Undecided as UndecidedBy}
 

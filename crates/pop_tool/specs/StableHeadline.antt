@@ -9,8 +9,8 @@ use Rattle.pop_net.specs.InputCrowd.{input_crowd}
 use Rattle.pop_net.specs.Step.{Step}
 use Rattle.pop_net.specs.Reachable.{Reachable}
 use Rattle.pop_crowd.specs.declared.crowd.Meeting.{Meeting}
-use Rattle.pop_words.specs.declared.kind.RunKind.{RunKind}
-use Rattle.pop_words.specs.declared.spec.RunSpec.{RunSpec}
+use Rattle.run_spec.specs.declared.kind.RunKind.{RunKind}
+use Rattle.run_spec.specs.declared.spec.RunSpec.{RunSpec}
 use Rattle.pair_workers.specs.Run.{joined}
 use Rattle.pair_workers.specs.WatchedRun.{IsRunOfUntil}
 use Rattle.pop_journal.specs.Journal.{journal_text}

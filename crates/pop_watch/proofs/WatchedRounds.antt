@@ -7,7 +7,7 @@ use Rattle.pop_net.specs.NetModel.{NetModel, CrowdModel}
 use Rattle.pop_net.specs.Step.{Step}
 use Rattle.pop_net.specs.Terminal.{IsTerminal}
 use Rattle.pop_crowd.specs.declared.crowd.Meeting.{Meeting}
-use Rattle.pop_words.specs.declared.spec.RunSpec.{RunSpec}
+use Rattle.run_spec.specs.declared.spec.RunSpec.{RunSpec}
 use Rattle.pair_workers.specs.Picks.{picks, first_state}
 use Rattle.pair_workers.specs.Run.{IsRound, joined, pairs, meetings_of, made_by}
 use Rattle.pair_workers.specs.Turns.{HasPicked, ArePlayed}

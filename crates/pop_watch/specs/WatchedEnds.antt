@@ -7,7 +7,7 @@ use Rattle.pop_net.specs.Lanes.{crowd_of, AreValid}
 use Rattle.pop_net.specs.declared.net.Word.{Word}
 use Rattle.pop_crowd.specs.declared.crowd.Meeting.{Meeting}
 use Rattle.terminal_test.specs.Pairs.{IsLeastPair}
-use Rattle.pop_words.specs.declared.spec.RunSpec.{RunSpec}
+use Rattle.run_spec.specs.declared.spec.RunSpec.{RunSpec}
 use Rattle.pair_workers.specs.declared.alone.End.{End}
 use Rattle.pair_workers.specs.declared.alone.RunEnd.{RunEnd}
 use Rattle.pair_workers.specs.declared.alone.End.TheVariants.{Terminal, Open}

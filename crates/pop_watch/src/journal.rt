@@ -3,7 +3,7 @@
 ghost use Rattle.std.specs.Prelude.{◌≡◌, ◌≤◌, IfOk};
 ghost use Rattle.pop_net.specs.Lanes.{crowd_of, AreValid};
 ghost use Rattle.pop_lines.specs.Lines.{lines_of};
-ghost use Rattle.pop_words.specs.declared.kind.RunKind.TheVariants.{Watched};
+ghost use Rattle.run_spec.specs.declared.kind.RunKind.TheVariants.{Watched};
 ghost use Rattle.pop_journal.specs.Journal.{journal_text};
 ghost use Rattle.pop_journal.specs.Calls.{IsReadFrom, CanVerify, IsVerified};
 ghost use Rattle.pop_watch.specs.Journals.{watched_last};
@@ -15,7 +15,7 @@ use pop_journal::{
     Journal, JournalFault, LINE_LIMIT, Last, VerifyFault, read_journal, verify, write_journal,
 };
 use pop_net::Net;
-use pop_words::{RunKind, RunSpec};
+use run_spec::{RunKind, RunSpec};
 use std::alloc::Global;
 
 /// The text of a watched run. Its last line is `undecided` if a pair that can change is left, and else `verdict`

@@ -8,7 +8,7 @@ ghost use Rattle.pop_watch.specs.Playing.{HasPlayedOn, KeepsPlaying, AreAllMade}
 use pair_workers::{ROUND_TURNS, RoundEnd, meet_next};
 use pop_io::NoMemory;
 use pop_net::Net;
-use pop_words::WATCHED_WORKERS;
+use run_spec::WATCHED_WORKERS;
 
 /// The next meeting of one worker, for which there is room.
 fn push_next(net: &Net, played: &mut RoundEnd, worker: u16)

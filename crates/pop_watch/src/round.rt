@@ -21,7 +21,7 @@ use pair_workers::{
 };
 use pop_crowd::{Crowd, Meeting};
 use pop_io::{Gate, NoMemory};
-use pop_words::WATCHED_WORKERS;
+use run_spec::WATCHED_WORKERS;
 use std::alloc::Global;
 use std::sync::Wait;
 use std::thread::{Threads, join_mut};

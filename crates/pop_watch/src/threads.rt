@@ -4,7 +4,7 @@ ghost use Rattle.std.specs.Prelude.{◌≤◌, IfOk};
 ghost use Rattle.agent_field.specs.Layouts.{Serves};
 ghost use Rattle.pop_net.specs.Lanes.{AreValid};
 ghost use Rattle.terminal_test.specs.TableNet.{table_net};
-ghost use Rattle.pop_words.specs.Kinds.{most_workers_of};
+ghost use Rattle.run_spec.specs.Kinds.{most_workers_of};
 ghost use Rattle.pair_workers.specs.Turns.{CanMakeRound};
 ghost use Rattle.pop_watch.specs.RunsOfKind.{IsRoundOf, IsTakenRunOf};
 
@@ -17,7 +17,7 @@ use pair_workers::{
 };
 use pop_crowd::Crowd;
 use pop_io::{Gate, NoMemory};
-use pop_words::RunKind;
+use run_spec::RunKind;
 use std::alloc::Global;
 use std::sync::Wait;
 use std::thread::Threads;

@@ -9,7 +9,7 @@ use pair_workers::{KeptRounds, RunContext, RunEnd};
 use pop_crowd::Crowd;
 use pop_io::{Gate, List, NoMemory};
 use pop_net::Net;
-use pop_words::{RunKind, RunSpec, WATCHED_WORKERS};
+use run_spec::{RunKind, RunSpec, WATCHED_WORKERS};
 use std::alloc::Global;
 use std::sync::Wait;
 use std::thread::Threads;

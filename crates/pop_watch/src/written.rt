@@ -2,7 +2,7 @@
 
 ghost use Rattle.std.specs.Prelude.{◌≤◌, IfOk};
 ghost use Rattle.pop_net.specs.Lanes.{AreValid};
-ghost use Rattle.pop_words.specs.Kinds.{most_workers_of};
+ghost use Rattle.run_spec.specs.Kinds.{most_workers_of};
 ghost use Rattle.pop_watch.specs.WrittenRuns.{IsWrittenRunOfUntil};
 
 use crate::threads::run_on_threads;
@@ -10,7 +10,7 @@ use pair_workers::{End, RunContext};
 use pop_crowd::Crowd;
 use pop_io::{Gate, NoMemory};
 use pop_journal::WrittenRounds;
-use pop_words::RunKind;
+use run_spec::RunKind;
 use std::alloc::Global;
 use std::sync::Wait;
 use std::thread::Threads;

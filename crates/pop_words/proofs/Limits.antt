@@ -4,11 +4,12 @@ use Rattle.std.specs.Prelude.{◌%◌, ◌==◌, ◌+◌, ◌*◌, nat_lt, IfOk,
 use Rattle.std.specs.Str.{bytes_eq}
 use Rattle.std.proofs.lemmas.Bool.{and_parts, leb-true, ltb-false}
 use Rattle.pop_lines.specs.Numbers.{number_of, number_of_within}
-use Rattle.pop_words.specs.Kinds.{most_workers_of}
-use Rattle.pop_words.specs.declared.kind.RunKind.{RunKind}
-use Rattle.pop_words.specs.declared.kind.RunKind.TheVariants.{Whole, Watched}
-use Rattle.pop_words.specs.declared.spec.TheConstants.{MEETING_LIMIT, DEMO_LIMIT}
-use Rattle.pop_words.specs.declared.spec.RunSpec.{RunSpec}
+use Rattle.run_spec.specs.Kinds.{most_workers_of}
+use Rattle.run_spec.specs.declared.kind.RunKind.{RunKind}
+use Rattle.run_spec.specs.declared.kind.RunKind.TheVariants.{Whole, Watched}
+use Rattle.run_spec.specs.declared.spec.TheConstants.{MEETING_LIMIT}
+use Rattle.pop_words.specs.declared.command.TheConstants.{DEMO_LIMIT}
+use Rattle.run_spec.specs.declared.spec.RunSpec.{RunSpec}
 use Rattle.pop_words.specs.declared.options.RunOption.{RunOption}
 use Rattle.pop_words.specs.declared.options.RunOption.TheVariants.{Workers, Shards, Turns, Seed}
 use Rattle.pop_words.specs.declared.command.Command.{Command}
@@ -20,7 +21,8 @@ use Rattle.pop_words.specs.declared.words.Flags.{Flags}
 use Rattle.pop_words.specs.declared.words.Flags.TheVariants.{OfCompile, OfReplay}
 use Rattle.pop_words.specs.declared.words.Form.{Form}
 use Rattle.pop_words.specs.declared.words.Form.TheVariants.{Alone, WithOptions, WithNumber, WithFlag}
-use Rattle.pop_words.specs.Options.{least_of, most_of, default_of, name_of, number_behind, option_value, spec_of, bad_at, run_with, or_fault, first_fault, options_meaning, IsWithin, IsWithinLimits}
+use Rattle.pop_words.specs.Options.{least_of, most_of, default_of, name_of, number_behind, option_value, spec_of, bad_at, run_with, or_fault, first_fault, options_meaning, IsWithin}
+use Rattle.run_spec.specs.RunLimits.{IsWithinLimits}
 use Rattle.pop_words.specs.Words.{row_of, form_named, commands, no_more, run_command, to_run, demo_with, demo_meaning, flag_rows, flagged_command, behind_flag, flag_meaning, meaning_behind, meaning_of}
 
 pub default_within : (kind : RunKind) (option : RunOption) → IsWithin kind option (default_of option)
@@ -88,8 +90,8 @@ spec_within kind words = (
   record {
     workers = within_whole kind Workers (option_value kind words Workers) (value_within kind words Workers);
     shards = within_whole kind Shards (option_value kind words Shards) (value_within kind words Shards);
-    turns = within_whole kind Turns (option_value kind words Turns) (value_within kind words Turns);
-    seed = within_whole kind Seed (option_value kind words Seed) (value_within kind words Seed);
+    turns = (within_whole kind Turns (option_value kind words Turns) (value_within kind words Turns)).1;
+    seed = (within_whole kind Seed (option_value kind words Seed) (value_within kind words Seed)).1;
   },
   (value_within kind words Workers).1,
 )

@@ -1,5 +1,4 @@
 pub mod CommandLine
-pub mod Kinds
 pub mod Options
 pub mod Words
 pub mod Meetings

@@ -8,11 +8,10 @@ use Rattle.pop_lines.specs.Numbers.{number_of_within}
 use Rattle.pop_words.specs.declared.options.RunOption.{RunOption}
 use Rattle.pop_words.specs.declared.options.RunOption.TheVariants.{Workers, Shards, Turns, Seed}
 use Rattle.pop_io.specs.declared.gate.TheConstants.{SHARD_LIMIT}
-use Rattle.pop_words.specs.declared.kind.RunKind.{RunKind}
-use Rattle.pop_words.specs.declared.kind.RunKind.TheVariants.{Whole}
-use Rattle.pop_words.specs.Kinds.{most_workers_of}
-use Rattle.pop_words.specs.declared.spec.TheConstants.{TURN_LIMIT, MEETING_LIMIT, SEED_LIMIT}
-use Rattle.pop_words.specs.declared.spec.RunSpec.{RunSpec}
+use Rattle.run_spec.specs.declared.kind.RunKind.{RunKind}
+use Rattle.run_spec.specs.Kinds.{most_workers_of}
+use Rattle.run_spec.specs.declared.spec.TheConstants.{TURN_LIMIT, MEETING_LIMIT, SEED_LIMIT}
+use Rattle.run_spec.specs.declared.spec.RunSpec.{RunSpec}
 use Rattle.pop_words.specs.declared.command.UsageWhy.{UsageWhy}
 use Rattle.pop_words.specs.declared.command.UsageWhy.TheVariants.{Missing, Unknown, Twice, Value, Product}
 use Rattle.pop_words.specs.declared.command.Usage.{Usage}
@@ -123,10 +122,3 @@ options_meaning kind words = or_fault (first_fault kind words) (run_with kind wo
 -- a number is within its option's limits
 abbrev pub IsWithin : RunKind → RunOption → ℕ → Type 0
 IsWithin kind option n = (least_of option ≤ n) × (n ≤ most_of kind option)
-
--- each number is within its option's limits for a whole run, which are those of any run but for the number of workers
-pub record IsWithinLimits (spec : RunSpec) : Type 0 where
-  pub workers : IsWithin Whole Workers spec.workers
-  pub shards : IsWithin Whole Shards spec.shards
-  pub turns : IsWithin Whole Turns spec.turns
-  pub seed : IsWithin Whole Seed spec.seed

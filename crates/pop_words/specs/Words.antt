@@ -13,11 +13,13 @@ use Rattle.pop_words.specs.declared.words.Flags.{Flags}
 use Rattle.pop_words.specs.declared.words.Flags.TheVariants.{OfCompile, OfReplay}
 use Rattle.pop_words.specs.declared.words.Form.TheVariants.{Alone, WithOptions, WithNumber, WithFlag}
 use Rattle.pop_lines.specs.Numbers.{number_of_within}
-use Rattle.pop_words.specs.declared.spec.TheConstants.{DEMO_LIMIT, WATCHED_WORKERS}
-use Rattle.pop_words.specs.declared.kind.RunKind.{RunKind}
-use Rattle.pop_words.specs.declared.kind.RunKind.TheVariants.{Whole, Watched}
-use Rattle.pop_words.specs.Options.{bad_at, options_meaning, IsWithinLimits}
-use Rattle.pop_words.specs.declared.spec.RunSpec.{RunSpec}
+use Rattle.run_spec.specs.declared.spec.TheConstants.{WATCHED_WORKERS}
+use Rattle.pop_words.specs.declared.command.TheConstants.{DEMO_LIMIT}
+use Rattle.run_spec.specs.declared.kind.RunKind.{RunKind}
+use Rattle.run_spec.specs.declared.kind.RunKind.TheVariants.{Whole, Watched}
+use Rattle.pop_words.specs.Options.{bad_at, options_meaning}
+use Rattle.run_spec.specs.RunLimits.{IsWithinLimits}
+use Rattle.run_spec.specs.declared.spec.RunSpec.{RunSpec}
 
 -- the words of the commands, and what follows each
 abbrev pub commands : List (List ℕ × Form)

@@ -1,7 +1,10 @@
 //! Commands, and why a list of words is none.
 
-use crate::spec::RunSpec;
+use run_spec::RunSpec;
 use std::fmt;
+
+/// The greatest number of a demo case.
+pub const DEMO_LIMIT: u32 = 9_999;
 
 /// What the program is asked to do.
 #[derive(Clone, Copy, PartialEq, Eq)]

@@ -6,16 +6,16 @@ ghost use Rattle.std.specs.Str.{bytes_eq};
 ghost use Rattle.pop_io.specs.declared.gate.TheConstants.{WORKER_LIMIT};
 ghost use Rattle.pop_words.specs.declared.words.TheConstants.{WORD_LIMIT};
 ghost use Rattle.pop_words.specs.CommandLine.{texts_of};
-ghost use Rattle.pop_words.specs.declared.kind.RunKind.TheVariants.{Whole};
-ghost use Rattle.pop_words.specs.Kinds.{most_workers_of};
-ghost use Rattle.pop_words.specs.Options.{IsWithin, IsWithinLimits, name_of, option_value, spec_of, options_meaning};
+ghost use Rattle.run_spec.specs.declared.kind.RunKind.TheVariants.{Whole};
+ghost use Rattle.run_spec.specs.Kinds.{most_workers_of};
+ghost use Rattle.pop_words.specs.Options.{IsWithin, name_of, option_value, spec_of, options_meaning};
+ghost use Rattle.run_spec.specs.RunLimits.{IsWithinLimits};
 ghost use Rattle.pop_words.specs.Options.{word_fault, name_fault, number_fault, first_fault};
 
 use crate::command::{Usage, UsageWhy};
-use crate::kind::RunKind;
-use crate::spec::{MEETING_LIMIT, RunSpec, SEED_LIMIT, TURN_LIMIT};
 use pop_io::SHARD_LIMIT;
 use pop_lines::number_within;
+use run_spec::{MEETING_LIMIT, RunKind, RunSpec, SEED_LIMIT, TURN_LIMIT};
 
 /// An option of a run.
 #[derive(Clone, Copy)]

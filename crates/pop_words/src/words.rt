@@ -3,16 +3,15 @@
 ghost use Rattle.std.specs.Prelude.{◌≡◌, ◌<◌, ◌≤◌, length, Some, IfSome, IfOk};
 ghost use Rattle.pop_words.specs.declared.words.TheConstants.{WORD_LIMIT};
 ghost use Rattle.pop_words.specs.CommandLine.{texts_of};
-ghost use Rattle.pop_words.specs.Kinds.{most_workers_of};
-ghost use Rattle.pop_words.specs.Options.{IsWithinLimits};
+ghost use Rattle.run_spec.specs.Kinds.{most_workers_of};
+ghost use Rattle.run_spec.specs.RunLimits.{IsWithinLimits};
 ghost use Rattle.pop_words.specs.Words.{meaning_of, meaning_behind, form_named, run_command, demo_meaning};
 ghost use Rattle.pop_words.specs.Words.{flagged_command, flag_meaning, HasLimits, FormHasLimits};
 
-use crate::command::{Command, Usage, UsageWhy};
-use crate::kind::RunKind;
+use crate::command::{Command, DEMO_LIMIT, Usage, UsageWhy};
 use crate::options::read_options;
-use crate::spec::{DEMO_LIMIT, RunSpec};
 use pop_lines::number_within;
+use run_spec::{RunKind, RunSpec};
 
 /// The most words: the number of a bad one has 32 bits.
 pub const WORD_LIMIT: usize = u32::MAX as usize;

@@ -7,7 +7,7 @@ use pop_crowd::Crowd;
 use pop_io::List;
 use pop_journal::{Last, read_journal, verify, write_journal};
 use pop_net::{Item, Net};
-use pop_words::{RunKind, RunSpec};
+use run_spec::{RunKind, RunSpec};
 use sample_nets::{leaf_of, net_of};
 use std::alloc::Global;
 use std::test::Fail;

@@ -6,7 +6,7 @@ use pair_workers::{End, run_all};
 use pop_crowd::Crowd;
 use pop_io::OpenGate;
 use pop_net::Net;
-use pop_words::RunSpec;
+use run_spec::RunSpec;
 use sample_nets::majority;
 use std::alloc::Global;
 use std::sync::Wait;

@@ -2,14 +2,14 @@
 
 ghost use Rattle.std.specs.Prelude.{◌≡◌, ◌≤◌, length, IfSome};
 ghost use Rattle.pop_net.specs.Lanes.{AreValid};
-ghost use Rattle.pop_words.specs.Options.{IsWithinLimits};
+ghost use Rattle.run_spec.specs.RunLimits.{IsWithinLimits};
 
 use pair_workers::{End, RunEnd};
 use pop_crowd::{Crowd, Meeting};
 use pop_io::{Gate, List, OpenGate};
 use pop_net::Net;
 use pop_watch::{read_watched, run_watched, verify_watched, whole_runs_are_watched, write_watched};
-use pop_words::{RunSpec, WATCHED_WORKERS};
+use run_spec::{RunSpec, WATCHED_WORKERS};
 use sample_nets::majority;
 use std::alloc::Global;
 use std::sync::Wait;

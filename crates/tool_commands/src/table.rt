@@ -7,7 +7,8 @@ ghost use Rattle.tool_runs.specs.Prepared.{Prepares, NeedsNoThreads};
 ghost use Rattle.tool_commands.specs.Commands.{CommandGives, IsPlain, reads, ready};
 
 use comp_net::LeafChoice;
-use pop_words::{Command, RunKind};
+use pop_words::Command;
+use run_spec::RunKind;
 use std::alloc::Global;
 use tool_proofs::{check_input, compile_input, eval_input, play_input, settle_input, show_input};
 use tool_runs::{Prepared, is_by_one, prepare_demo, prepare_run, replay_input};

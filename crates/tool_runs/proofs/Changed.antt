@@ -5,10 +5,10 @@ use Rattle.std.proofs.lemmas.List.{drop_more}
 use Rattle.std.proofs.lemmas.List.Sums.{count_by-le-length}
 use Rattle.pop_net.specs.NetModel.{NetModel, CrowdModel}
 use Rattle.pop_crowd.specs.declared.crowd.Meeting.{Meeting}
-use Rattle.pop_words.specs.Options.{IsWithinLimits}
-use Rattle.pop_words.specs.declared.spec.RunSpec.{RunSpec}
+use Rattle.run_spec.specs.RunLimits.{IsWithinLimits}
+use Rattle.run_spec.specs.declared.spec.RunSpec.{RunSpec}
 use Rattle.pair_workers.specs.Run.{joined, IsRun}
-use Rattle.pop_words.specs.declared.kind.RunKind.TheVariants.{Whole}
+use Rattle.run_spec.specs.declared.kind.RunKind.TheVariants.{Whole}
 use Rattle.pop_journal.proofs.RunKinds.{run_form}
 use Rattle.pop_journal.proofs.Written.{few_meetings}
 use Rattle.tool_runs.specs.Demo.{changed}

@@ -1,7 +1,7 @@
 -- The last line of a run.
 use Rattle.std.proofs.Common.{ℕ, List}
 use Rattle.pop_net.specs.NetModel.{NetModel, CrowdModel}
-use Rattle.pop_words.specs.declared.spec.RunSpec.{RunSpec}
+use Rattle.run_spec.specs.declared.spec.RunSpec.{RunSpec}
 use Rattle.pair_workers.specs.Ends.{EndsBy}
 use Rattle.pop_watch.specs.WatchedEnds.{WatchedEndsBy}
 use Rattle.pop_crowd.specs.declared.crowd.Meeting.{Meeting}

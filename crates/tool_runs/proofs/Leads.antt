@@ -1,7 +1,7 @@
 -- What is prepared leads to outputs of a rule.
 use Rattle.tool_texts.specs.Steps.{Stop}
 use Rattle.std.proofs.Common.{◌≡◌, Result, Ok, Err, sym, subst}
-use Rattle.pop_words.specs.declared.kind.RunKind.TheVariants.{Whole}
+use Rattle.run_spec.specs.declared.kind.RunKind.TheVariants.{Whole}
 use Rattle.tool_texts.specs.declared.refusal.Refusal.{Refusal}
 use Rattle.pop_io.specs.declared.failure.Failure.TheVariants.{Fault, NoMemory}
 use Rattle.tool_texts.specs.declared.output.Output.{Output}

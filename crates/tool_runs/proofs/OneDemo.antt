@@ -2,7 +2,7 @@
 use Rattle.std.proofs.Common.{◌≡◌, ℕ, List, Option, Result, Ok, refl, sym, ap, subst, ◌∙◌}
 use Rattle.pop_net.specs.NetModel.{CrowdModel}
 use Rattle.pop_crowd.specs.declared.crowd.Meeting.{Meeting}
-use Rattle.pop_words.specs.declared.kind.RunKind.TheVariants.{Whole}
+use Rattle.run_spec.specs.declared.kind.RunKind.TheVariants.{Whole}
 use Rattle.pair_workers.proofs.OnlyRun.{only_run}
 use Rattle.pres_ast.specs.PredicateValue.{predicate_value}
 use Rattle.pop_journal.specs.Journal.{text_of}

@@ -1,6 +1,6 @@
 -- A replay has one output.
 use Rattle.std.proofs.Common.{◌≡◌, ℕ, List, Result, sym, ap, subst, ◌∙◌}
-use Rattle.pop_words.specs.declared.kind.RunKind.{RunKind}
+use Rattle.run_spec.specs.declared.kind.RunKind.{RunKind}
 use Rattle.tool_bundles.specs.declared.bundle.AnyBundle.{AnyBundle}
 use Rattle.tool_texts.specs.declared.refusal.Refusal.{Refusal}
 use Rattle.tool_texts.specs.declared.output.Output.{Output}

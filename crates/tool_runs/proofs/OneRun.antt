@@ -7,8 +7,8 @@ use Rattle.pop_net.specs.InputCrowd.{input_crowd}
 use Rattle.pop_crowd.specs.declared.crowd.Meeting.{Meeting}
 use Rattle.pop_crowd.specs.Crowds.{input_size}
 use Rattle.pop_crowd.specs.declared.limits.TheConstants.{AGENT_LEAST}
-use Rattle.pop_words.specs.declared.kind.RunKind.TheVariants.{Whole}
-use Rattle.pop_words.specs.declared.spec.RunSpec.{RunSpec}
+use Rattle.run_spec.specs.declared.kind.RunKind.TheVariants.{Whole}
+use Rattle.run_spec.specs.declared.spec.RunSpec.{RunSpec}
 use Rattle.pair_workers.proofs.OnlyRun.{only_run}
 use Rattle.pop_journal.specs.Journal.{journal_text}
 use Rattle.goal_checker.specs.declared.fault.StableRejected.{StableRejected}

@@ -9,8 +9,8 @@ use Rattle.pop_net.proofs.Tuples.{input_tuples, reachable_tuples}
 use Rattle.tool_bundles.proofs.InputSize.{length-input_crowd}
 use Rattle.pop_crowd.specs.declared.crowd.Meeting.{Meeting}
 use Rattle.pop_crowd.proofs.Reached.{replay_leads}
-use Rattle.pop_words.specs.declared.kind.RunKind.{RunKind}
-use Rattle.pop_words.specs.declared.spec.RunSpec.{RunSpec}
+use Rattle.run_spec.specs.declared.kind.RunKind.{RunKind}
+use Rattle.run_spec.specs.declared.spec.RunSpec.{RunSpec}
 use Rattle.pair_workers.specs.Run.{joined}
 use Rattle.pair_workers.specs.WatchedRun.{IsRunOfUntil}
 use Rattle.pop_journal.proofs.RunKinds.{are_watched, is_watched_until, run_form_until}

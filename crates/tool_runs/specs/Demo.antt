@@ -8,7 +8,7 @@ use Rattle.pop_net.specs.NetModel.{NetModel, CrowdModel, number_of_helpers}
 use Rattle.pop_net.specs.InputCrowd.{IsInput, input_crowd}
 use Rattle.pop_net.specs.Lanes.{crowd_of}
 use Rattle.pop_crowd.specs.declared.crowd.Meeting.{Meeting}
-use Rattle.pop_words.specs.declared.spec.TheConstants.{DEMO_LIMIT}
+use Rattle.pop_words.specs.declared.command.TheConstants.{DEMO_LIMIT}
 use Rattle.pair_workers.specs.Run.{IsRun, joined}
 use Rattle.pair_workers.specs.declared.alone.RunEnd.{RunEnd}
 use Rattle.pop_journal.specs.Journal.{last_line, text_of}

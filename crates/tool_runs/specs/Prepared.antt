@@ -9,11 +9,11 @@ use Rattle.pair_workers.specs.WatchedRun.{IsRunOfUntil}
 use Rattle.pair_workers.specs.declared.alone.End.{End}
 use Rattle.pair_workers.specs.declared.alone.RunEnd.{RunEnd}
 use Rattle.pop_journal.specs.Journal.{run_lines, text_of}
-use Rattle.pop_words.specs.declared.kind.RunKind.{RunKind}
-use Rattle.pop_words.specs.declared.kind.RunKind.TheVariants.{Whole}
-use Rattle.pop_words.specs.declared.spec.RunSpec.{RunSpec}
-use Rattle.pop_words.specs.Kinds.{most_workers_of}
-use Rattle.pop_words.specs.Options.{IsWithinLimits}
+use Rattle.run_spec.specs.declared.kind.RunKind.{RunKind}
+use Rattle.run_spec.specs.declared.kind.RunKind.TheVariants.{Whole}
+use Rattle.run_spec.specs.declared.spec.RunSpec.{RunSpec}
+use Rattle.run_spec.specs.Kinds.{most_workers_of}
+use Rattle.run_spec.specs.RunLimits.{IsWithinLimits}
 use Rattle.tool_texts.specs.declared.refusal.Refusal.{Refusal}
 use Rattle.tool_texts.specs.declared.output.Output.{Output}
 use Rattle.tool_texts.specs.Steps.{MayStop, Stop}

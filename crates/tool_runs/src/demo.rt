@@ -2,7 +2,7 @@
 
 ghost use Rattle.std.specs.Prelude.{◌≡◌, ◌++◌, ◌<◌, ◌≤◌, ◌^◌, count_by, decimal, length, None, IfOk, OnOk};
 ghost use Rattle.pop_lines.specs.Lines.{ended};
-ghost use Rattle.pop_words.specs.declared.spec.TheConstants.{DEMO_LIMIT};
+ghost use Rattle.pop_words.specs.declared.command.TheConstants.{DEMO_LIMIT};
 ghost use Rattle.pair_workers.specs.Run.{joined};
 ghost use Rattle.pop_journal.specs.Journal.{text_of};
 ghost use Rattle.pop_demo.specs.DemoCase.{names_of_demo};

@@ -4,7 +4,7 @@ use crate::demo::PendingDemo;
 use crate::proved::Proved;
 use pop_crowd::Crowd;
 use pop_io::List;
-use pop_words::{RunKind, RunSpec};
+use run_spec::{RunKind, RunSpec};
 use tool_texts::Output;
 
 /// The setting of a run: a net whose proof is valid, and how it is run.

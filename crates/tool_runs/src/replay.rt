@@ -3,7 +3,7 @@
 ghost use Rattle.std.specs.Prelude.{◌≡◌, length, Ok, IfOk};
 ghost use Rattle.pop_lines.specs.Lines.{lines_of};
 ghost use Rattle.pop_net.specs.Lanes.{crowd_of, AreValid};
-ghost use Rattle.pop_words.specs.Options.{IsWithinLimits};
+ghost use Rattle.run_spec.specs.RunLimits.{IsWithinLimits};
 ghost use Rattle.pop_journal.specs.Rounds.{AreRoundsOf};
 ghost use Rattle.pop_journal.specs.Form.{journal_in};
 ghost use Rattle.pop_journal.specs.Calls.{CanVerify, IsVerifiedUntil};
@@ -19,7 +19,7 @@ use crate::proved::{Proved, prove};
 use pop_crowd::Crowd;
 use pop_io::Failure;
 use pop_journal::{Journal, JournalFault, VerifyFault, read_journal, verify, verify_settled};
-use pop_words::RunKind;
+use run_spec::RunKind;
 use std::alloc::Global;
 use tool_bundles::{AnyBundle, Start, begin_any};
 use tool_texts::{Ending, Output, Refusal, Stop, two_and_some_lines};

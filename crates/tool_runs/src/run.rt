@@ -2,9 +2,9 @@
 
 ghost use Rattle.std.specs.Prelude.{◌≡◌, ◌≤◌, ◌↔◌, ◌++◌, ℕ, List as Items, length, IfOk, IsTrue};
 ghost use Rattle.pop_lines.specs.Lines.{lines_of, ended};
-ghost use Rattle.pop_words.specs.declared.kind.RunKind.TheVariants.{Whole};
-ghost use Rattle.pop_words.specs.Kinds.{most_workers_of};
-ghost use Rattle.pop_words.specs.Options.{IsWithinLimits};
+ghost use Rattle.run_spec.specs.declared.kind.RunKind.TheVariants.{Whole};
+ghost use Rattle.run_spec.specs.Kinds.{most_workers_of};
+ghost use Rattle.run_spec.specs.RunLimits.{IsWithinLimits};
 ghost use Rattle.tool_bundles.specs.Start.{IsStart};
 ghost use Rattle.tool_bundles.specs.StableBundles.{IsAnyBundleWithin, net_of};
 ghost use Rattle.tool_runs.specs.Proved.{proved_pred};
@@ -19,7 +19,7 @@ use pop_crowd::Crowd;
 use pop_io::{Failure, Gate, List, NoMemory};
 use pop_journal::{Last, push_end, push_run_alone};
 use pop_watch::push_run;
-use pop_words::{RunKind, RunSpec};
+use run_spec::{RunKind, RunSpec};
 use std::alloc::{AllocError, Global};
 use std::sync::Wait;
 use std::thread::Threads;

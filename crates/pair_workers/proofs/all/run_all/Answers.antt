@@ -58,7 +58,7 @@ rounds-init g c =
       valid = c.requires.valid;
       agents = refl;
       pickers = first.long;
-      few = c.requires.limits.turns.1;
+      few = c.requires.limits.turns;
       serves = inl c.new-layout.ensures;
     }
 

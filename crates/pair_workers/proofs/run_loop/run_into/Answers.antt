@@ -75,8 +75,8 @@ rounds-init g c =
       };
       valid = c.requires.valid;
       agents = refl;
-      few = c.args.run.now.limits.turns.1;
-      count = omega (arith, c.args.run.now.limits.turns.1);
+      few = c.args.run.now.limits.turns;
+      count = omega (arith, c.args.run.now.limits.turns);
     }
 
 pub goes_on-requires : goal.goes_on-requires

@@ -1,5 +1,5 @@
 use Rattle.std.proofs.Common.{List, ℕ, ◌++◌, ap, ◌∙◌}
-use Rattle.pop_words.specs.declared.kind.RunKind.TheVariants.{Whole}
+use Rattle.run_spec.specs.declared.kind.RunKind.TheVariants.{Whole}
 use Rattle.pop_journal.specs.Journal.{round_lines, text_of}
 use Rattle.pop_journal.proofs.MadeAlone.{ended_text}
 use Rattle.pop_journal.proofs.WrittenAll.{all_written}

@@ -84,7 +84,7 @@ loop-k-preserved c =
       lines = omega (arith, was.lines, long);
       total = ap (λ (n : ℕ). n + length r) was.total ∙ sym (length-append before r) ∙ ap (length {A = Meeting}) (sym more);
       few = omega (arith, was.few, long);
-      rounds = early journal.spec (length c.args.replayer.now.crowd) rounds c.requires.rounds k less r is c.requires.spec.turns.1;
+      rounds = early journal.spec (length c.args.replayer.now.crowd) rounds c.requires.rounds k less r is c.requires.spec.turns;
       stands = subst (λ (l : List Meeting). IsReplaying net start journal.spec l c.compare_round.new.self) (sym more) told.1;
       passed = was.passed
           ∙ ap (λ (rs : List (List Meeting)). first_difference c.loop-k.line (rounds_compared rest net start journal.spec before (k + 1) worker rs ++ t)) (drop_is journal.spec (length c.args.replayer.now.crowd) rounds c.requires.rounds k less r is)

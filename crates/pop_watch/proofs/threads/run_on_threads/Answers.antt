@@ -29,8 +29,8 @@ rounds-init g c =
       valid = c.requires.valid;
       agents = refl;
       pickers = first.long;
-      few = c.args.run.now.limits.turns.1;
-      count = omega (arith, c.args.run.now.limits.turns.1);
+      few = c.args.run.now.limits.turns;
+      count = omega (arith, c.args.run.now.limits.turns);
       serves = inl c.new-layout.ensures;
     }
 

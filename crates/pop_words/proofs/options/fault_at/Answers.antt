@@ -1,7 +1,7 @@
 use Rattle.std.proofs.Common.{◌≡◌, ℕ, ◌%◌, List, [], take, slice_index_or, map, refl, ◌∙◌}
 use Rattle.std.proofs.lemmas.Bool.{eq-eqb}
 use Rattle.std.proofs.lemmas.List.{get_or-map, take-map}
-use Rattle.pop_words.specs.declared.kind.RunKind.{RunKind}
+use Rattle.run_spec.specs.declared.kind.RunKind.{RunKind}
 use Rattle.pop_words.specs.Options.{name_fault, word_fault}
 use Rattle.pop_words.proofs.options.fault_at.Goals as goal
 

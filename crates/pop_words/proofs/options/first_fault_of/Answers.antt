@@ -1,7 +1,7 @@
 use Rattle.std.proofs.Common.{◌≡◌, ℕ, ◌<◌, inl, inr, List, map, length, Some, None, refl, ap, sym, ◌∙◌, arith, zero-add}
 use Rattle.std.proofs.lemmas.Bool.{cases_lt}
 use Rattle.std.proofs.lemmas.List.{length-map}
-use Rattle.pop_words.specs.declared.kind.RunKind.{RunKind}
+use Rattle.run_spec.specs.declared.kind.RunKind.{RunKind}
 use Rattle.pop_words.specs.declared.command.UsageWhy.{UsageWhy}
 use Rattle.pop_words.specs.Options.{word_fault, fault_with_place, first_fault}
 use Rattle.pop_words.proofs.Firsts.{given_at, none_given}

@@ -2,7 +2,7 @@ use Rattle.std.proofs.Common.{◌≡◌, ℕ, ◌+◌, ◌≤◌, List, [], map,
 use Rattle.std.specs.Prelude.{position}
 use Rattle.std.specs.Str.{bytes_eq}
 use Rattle.std.proofs.lemmas.List.{length-map, get_or-map, get_or_past}
-use Rattle.pop_words.specs.declared.kind.RunKind.{RunKind}
+use Rattle.run_spec.specs.declared.kind.RunKind.{RunKind}
 use Rattle.pop_words.specs.declared.options.RunOption.{RunOption}
 use Rattle.pop_words.specs.Options.{name_of, option_value, default_of, number_behind}
 use Rattle.pop_words.proofs.Firsts.{position_map}

@@ -16,7 +16,7 @@ pub enum RunKind {
 
 impl RunKind {
     ghost use Rattle.std.specs.Prelude.{◌≡◌};
-    ghost use Rattle.pop_words.specs.Kinds.{kind_word, most_workers_of};
+    ghost use Rattle.run_spec.specs.Kinds.{kind_word, most_workers_of};
 
     /// The word of the command, which also begins its journals.
     pub fn word(self) -> &'static str

@@ -1,9 +1,9 @@
 -- The two kinds of run.
 use Rattle.std.specs.Prelude.{ℕ, List, codes}
 use Rattle.pop_io.specs.declared.gate.TheConstants.{WORKER_LIMIT}
-use Rattle.pop_words.specs.declared.spec.TheConstants.{WATCHED_WORKERS}
-use Rattle.pop_words.specs.declared.kind.RunKind.{RunKind}
-use Rattle.pop_words.specs.declared.kind.RunKind.TheVariants.{Whole, Watched}
+use Rattle.run_spec.specs.declared.spec.TheConstants.{WATCHED_WORKERS}
+use Rattle.run_spec.specs.declared.kind.RunKind.{RunKind}
+use Rattle.run_spec.specs.declared.kind.RunKind.TheVariants.{Whole, Watched}
 
 -- the word of the command, which also begins its journals
 abbrev pub kind_word : RunKind → List ℕ
