@@ -32,6 +32,7 @@ CRATES = [
     "cert_base",
     "cert_layers",
     "cert_linear",
+    "tree_faults",
     "cert_traps",
     "cert_tree",
     "cert_json",

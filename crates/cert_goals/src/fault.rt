@@ -1,7 +1,7 @@
 //! Why sets are not good, and why goals are not valid.
 
 use cert_layers::LayerWhy;
-use cert_tree::TreeFault;
+use tree_faults::TreeFault;
 
 /// The first set that fails, by its place, and why: first outputs, then moves that lead out, then waking.
 #[derive(Clone, Copy, PartialEq, Eq)]

@@ -1,15 +1,15 @@
 -- A room: cases that speak of the same crowd.
-use Rattle.std.specs.Prelude.{◌≡◌, ℕ, ◌+◌, ◌≤◌, true, Bool, List, ◌++◌, map, length, All, Option, Some, None}
+use Rattle.std.specs.Prelude.{◌≡◌, ℕ, ◌+◌, ◌≤◌, true, Bool, List, ◌++◌, map, length, All, None}
 use Rattle.pop_net.specs.LeafModel.{LeafModel}
 use Rattle.cert_base.specs.declared.limits.TheConstants.{PATH_LIMIT}
 use Rattle.cert_base.specs.declared.fact.Fact.{Fact}
 use Rattle.cert_base.specs.declared.node.Node.{Node}
-use Rattle.cert_tree.specs.declared.fault.TreeWhy.{TreeWhy}
+use Rattle.tree_faults.specs.declared.fault.TreeWhy.{TreeWhy}
 use Rattle.cert_tree.specs.declared.room.Room.{Room}
 use Rattle.pop_io.specs.declared.failure.Failure.{Failure}
-use Rattle.pop_io.specs.declared.failure.Failure.TheVariants.{Fault, NoMemory}
 use Rattle.cert_tree.specs.Frames.{Stacked, stacked, IsNested, IsFit}
-use Rattle.cert_tree.specs.Refusals.{Waiting, waits, dead_at, cases_at, all_fit, own_refusal, refusal}
+use Rattle.tree_faults.specs.Refusals.{Waiting, waits, dead_at, cases_at, all_fit, own_refusal, refusal}
+use Rattle.tree_faults.specs.Halts.{HaltsBy}
 
 -- a case of a stack that stands under so many nodes more
 abbrev pub placed : ℕ → Bool → Stacked → Waiting
@@ -38,16 +38,6 @@ pub record Opens (above : ℕ) (is_still : Bool) (facts : List Fact) (cases : Li
   pub still_is : room.is_still ≡ is_still
   pub waits : stacked room.stack ≡ map (λ own. (0, facts ++ own)) cases
   pub nested : IsNested room.stack
-
--- the node is passed, and these are its cases of the end
-pub record IsPassed (leaf dead : LeafModel) (facts : List Fact) (node : Node) (cases : List (List Fact)) : Type 0 where
-  pub cases_are : cases ≡ cases_at leaf dead facts node
-  pub unrefused : own_refusal leaf dead facts node ≡ None
-
--- the reason of a halt is this one, unless memory ran out
-abbrev pub HaltsBy : Option TreeWhy → Failure TreeWhy → Type 0
-HaltsBy why (Fault reason) = why ≡ Some reason
-HaltsBy why NoMemory = Unit {0}
 
 -- the node is passed at all facts of the room, and its cases of the end wait there
 pub record HasPassed (leaf dead : LeafModel) (old : Room) (node : Node) (new : Room) : Type 0 where

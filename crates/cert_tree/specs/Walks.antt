@@ -4,21 +4,19 @@ use Rattle.std.specs.Prelude.{Some, None, reverse, Result, OnOk}
 use Rattle.pop_net.specs.LeafModel.{LeafModel}
 use Rattle.cert_base.specs.declared.fact.Fact.{Fact}
 use Rattle.cert_base.specs.declared.node.Node.{Node}
-use Rattle.cert_base.specs.Valuation.{Valuation}
 use Rattle.cert_base.specs.Closes.{ClosesFor}
-use Rattle.cert_base.specs.Ends.{IsEndFor, MeetsAll}
 use Rattle.cert_linear.specs.Conditions.{IsOrdered}
-use Rattle.cert_tree.specs.declared.fault.TreeWhy.{TreeWhy}
-use Rattle.cert_tree.specs.declared.fault.TreeWhy.TheVariants.{TooManyFacts}
-use Rattle.cert_tree.specs.declared.fault.TreeFault.{TreeFault}
+use Rattle.tree_faults.specs.declared.fault.TreeWhy.{TreeWhy}
+use Rattle.tree_faults.specs.declared.fault.TreeWhy.TheVariants.{TooManyFacts}
+use Rattle.tree_faults.specs.declared.fault.TreeFault.{TreeFault}
 use Rattle.cert_tree.specs.declared.room.Room.{Room}
 use Rattle.cert_tree.specs.declared.walk.Walk.{Walk}
 use Rattle.pop_io.specs.declared.failure.Failure.{Failure}
-use Rattle.pop_io.specs.declared.failure.Failure.TheVariants.{Fault, NoMemory}
 use Rattle.pop_io.specs.Failures.{IfFault, OnlyMemory}
-use Rattle.cert_tree.specs.Refusals.{Waiting, waits, cases_under, all_fit, facts_before, entries, first_from}
-use Rattle.cert_tree.specs.Refusals.{IsFaultFor}
-use Rattle.cert_tree.specs.Rooms.{waiting_in, depth_in, IsSoundIn, HaltsBy}
+use Rattle.tree_faults.specs.Refusals.{Waiting, waits, cases_under, all_fit, facts_before, entries}
+use Rattle.tree_faults.specs.Refusals.{IsFaultFor}
+use Rattle.cert_tree.specs.Rooms.{waiting_in, depth_in, IsSoundIn}
+use Rattle.tree_faults.specs.Halts.{HaltsBy}
 
 -- all cases that wait in these rooms
 abbrev pub waiting_rooms : List Room → List Waiting
@@ -65,27 +63,6 @@ abbrev pub IsRefusedBefore : LeafModel → Walk → Node → Failure TreeWhy →
 IsRefusedBefore leaf walk node halt =
     HaltsBy (if all_fit (facts_before leaf walk.room.stack.trail node) (entries leaf node) then None
     else Some TooManyFacts) halt
-
--- a node is passed: the first refused node is the same with it and without it
-abbrev pub GoesOn : (leaf dead : LeafModel) → List Waiting → Node → List Waiting → Type 0
-GoesOn leaf dead before node after =
-    (number : ℕ) (nodes : List Node)
-    → first_from leaf dead before number (node ∷ nodes) ≡ first_from leaf dead after (number + 1) nodes
-
--- a node is the first that is refused
-abbrev pub HaltsAt : (leaf dead : LeafModel) → List Waiting → Node → Failure TreeWhy → Type 0
-HaltsAt leaf dead before node (Fault why) =
-    (number : ℕ) (nodes : List Node) → first_from leaf dead before number (node ∷ nodes) ≡ Some (number, why)
-HaltsAt leaf dead before node NoMemory = Unit {0}
-
--- the fault of a halt at a node
-abbrev pub fault_at : ℕ → Failure TreeWhy → Failure TreeFault
-fault_at node (Fault why) = Fault (record { node = node; why = why })
-fault_at node NoMemory = NoMemory
-
--- no end meets all the facts
-abbrev pub NoneMeets : (leaf dead : LeafModel) → List Fact → Type 0
-NoneMeets leaf dead facts = (count : Valuation) → IsEndFor leaf dead count → MeetsAll count facts → ⊥
 
 -- what the walk over a tree says of its nodes, where these facts wait at the beginning
 pub record WalksNodes (leaf dead : LeafModel) (facts : List Fact) (nodes : List Node)

@@ -9,10 +9,10 @@ use Rattle.cert_base.specs.declared.proof.Goal.{Goal}
 use Rattle.cert_base.specs.Closes.{ClosesFor}
 use Rattle.pop_io.specs.declared.failure.Failure.TheVariants.{Fault}
 use Rattle.cert_layers.proofs.Valid.{accepted}
-use Rattle.cert_tree.specs.declared.fault.TreeFault.{TreeFault}
-use Rattle.cert_tree.specs.declared.fault.TreeWhy.{TreeWhy}
-use Rattle.cert_tree.specs.Refusals.{IsFaultFor}
-use Rattle.cert_tree.proofs.ClosedWalk.{ClosesFor-unrefused}
+use Rattle.tree_faults.specs.declared.fault.TreeFault.{TreeFault}
+use Rattle.tree_faults.specs.declared.fault.TreeWhy.{TreeWhy}
+use Rattle.tree_faults.specs.Refusals.{IsFaultFor}
+use Rattle.tree_faults.proofs.ClosedWalk.{ClosesFor-unrefused}
 use Rattle.cert_goals.specs.declared.fault.GoalWhy.{GoalWhy}
 use Rattle.cert_goals.specs.declared.fault.GoalWhy.TheVariants.{Layers, Set, Node}
 use Rattle.cert_goals.specs.ValidGoal.{moves_of_goal, dead_for, sets_of_goal, facts_of_goal, ValidGoal, IsGoalFault}

@@ -19,9 +19,9 @@ use Rattle.cert_layers.specs.declared.fault.LayerWhy.{LayerWhy}
 use Rattle.cert_layers.specs.declared.fault.LayerWhy.TheVariants.{Shape, NoLayer, NotLower, Wakes}
 use Rattle.cert_layers.specs.LayerFaults.{ShapedAt, ListedAt, LowerAt, SleepsAt, Each, IsFirstFailing, AreBrokenFirst}
 use Rattle.cert_layers.proofs.Valid.{accepted}
-use Rattle.cert_tree.specs.declared.fault.TreeWhy.{TreeWhy}
-use Rattle.cert_tree.specs.Refusals.{first_refused}
-use Rattle.cert_tree.proofs.Verdicts.{only_memory}
+use Rattle.tree_faults.specs.declared.fault.TreeWhy.{TreeWhy}
+use Rattle.tree_faults.specs.Refusals.{first_refused}
+use Rattle.tree_faults.proofs.Verdicts.{only_memory}
 use Rattle.pop_checker.specs.declared.fault.Rejected.{Rejected}
 use Rattle.pop_checker.specs.declared.fault.Rejected.TheVariants.{Layers, Tree, Predicate}
 use Rattle.pop_checker.specs.Rejections.{AreValidBefore, RejectsLayers, RejectsTree, IsFirstRejected, IsRejected}

@@ -3,9 +3,9 @@ use Rattle.std.specs.Prelude.{ℕ, Bool, List, ◌++◌, codes, decimal, if◌th
 use Rattle.pop_lines.specs.Lines.{ended}
 use Rattle.cert_layers.specs.declared.fault.LayerWhy.{LayerWhy}
 use Rattle.cert_layers.specs.declared.fault.LayerWhy.TheVariants.{Shape, NoLayer, NotLower, Wakes}
-use Rattle.cert_tree.specs.declared.fault.TreeWhy.{TreeWhy}
-use Rattle.cert_tree.specs.declared.fault.TreeWhy.TheVariants.{Missing, TooDeep, BadIndex, NoTwin}
-use Rattle.cert_tree.specs.declared.fault.TreeWhy.TheVariants.{NotOpen, NotClosed, TooManyFacts, Rest}
+use Rattle.tree_faults.specs.declared.fault.TreeWhy.{TreeWhy}
+use Rattle.tree_faults.specs.declared.fault.TreeWhy.TheVariants.{Missing, TooDeep, BadIndex, NoTwin}
+use Rattle.tree_faults.specs.declared.fault.TreeWhy.TheVariants.{NotOpen, NotClosed, TooManyFacts, Rest}
 use Rattle.pop_checker.specs.declared.fault.Rejected.{Rejected}
 use Rattle.pop_checker.specs.declared.fault.Rejected.TheVariants.{Layers, Tree, Predicate}
 use Rattle.cert_goals.specs.declared.fault.SetFault.{SetFault}

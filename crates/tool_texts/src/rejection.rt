@@ -7,11 +7,11 @@ ghost use Rattle.tool_texts.specs.Rejections.{set_words, goal_words, stable_reje
 use crate::output::{Ending, Output};
 use cert_goals::{GoalWhy, SetFault};
 use cert_layers::LayerWhy;
-use cert_tree::{TreeFault, TreeWhy};
 use goal_checker::StableRejected;
 use pop_checker::Rejected;
 use std::alloc::{AllocError, Global};
 use std::fmt;
+use tree_faults::{TreeFault, TreeWhy};
 
 /// What is wrong with the layers of a leaf.
 #[derive(Clone, Copy)]

@@ -7,11 +7,11 @@ use Rattle.cert_base.specs.declared.fact.Fact.{Fact}
 use Rattle.cert_base.specs.declared.node.Node.{Node}
 use Rattle.pop_io.specs.declared.failure.Failure.{Failure}
 use Rattle.pop_io.specs.declared.failure.Failure.TheVariants.{Fault, NoMemory}
-use Rattle.cert_tree.specs.declared.fault.TreeWhy.{TreeWhy}
-use Rattle.cert_tree.specs.declared.fault.TreeWhy.TheVariants.{TooManyFacts}
-use Rattle.cert_tree.specs.Refusals.{Waiting, waits, dead_at, cases_at, cases_below, entries, facts_before, all_fit, own_refusal, refusal, go_on, first_from}
-use Rattle.cert_tree.specs.Rooms.{HaltsBy}
-use Rattle.cert_tree.specs.Walks.{HaltsAt}
+use Rattle.tree_faults.specs.declared.fault.TreeWhy.{TreeWhy}
+use Rattle.tree_faults.specs.declared.fault.TreeWhy.TheVariants.{TooManyFacts}
+use Rattle.tree_faults.specs.Refusals.{Waiting, waits, dead_at, cases_at, cases_below, entries, facts_before, all_fit, own_refusal, refusal, go_on, first_from}
+use Rattle.tree_faults.specs.Halts.{HaltsBy}
+use Rattle.tree_faults.specs.Halts.{HaltsAt}
 
 module _ (leaf dead : LeafModel) (above : ℕ) (facts : List Fact) (node : Node) where
   module _ (l : above < 4096) where

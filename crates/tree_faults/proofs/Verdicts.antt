@@ -1,5 +1,5 @@
 -- What the walk's end says of the nodes.
-use Rattle.std.proofs.Common.{◌≡◌, ◌≢◌, ℕ, ◌+◌, ◌-◌, ◌<◌, Bool, true, false, List, [], ◌∷◌, length, drop, get_or, refl, ap, sym, ◌∙◌}
+use Rattle.std.proofs.Common.{◌≡◌, ◌≢◌, ℕ, ◌+◌, ◌<◌, Bool, true, false, List, [], ◌∷◌, length, drop, get_or, refl, ap, sym, ◌∙◌}
 use Rattle.std.specs.Prelude.{Option, Some, None, slice_index_or}
 use Rattle.std.proofs.lemmas.Option.{slice_get-get_or}
 use Rattle.std.proofs.lemmas.List.{drop_more}
@@ -12,15 +12,16 @@ use Rattle.cert_base.specs.Closes.{ClosesFor}
 use Rattle.cert_base.specs.Valuation.{Valuation, times_taken}
 use Rattle.cert_base.specs.Ends.{IsWrongEnd, EndsRight, HoldAtWrongEnds}
 use Rattle.cert_base.proofs.Executions.{count_for, execution_has}
-use Rattle.cert_tree.specs.declared.fault.TreeWhy.TheVariants.{Missing}
-use Rattle.cert_tree.specs.declared.fault.TreeFault.{TreeFault}
+use Rattle.tree_faults.specs.declared.fault.TreeWhy.TheVariants.{Missing}
+use Rattle.tree_faults.specs.declared.fault.TreeFault.{TreeFault}
 use Rattle.pop_io.specs.declared.failure.Failure.{Failure}
 use Rattle.pop_io.specs.declared.failure.Failure.TheVariants.{Fault, NoMemory}
 use Rattle.pop_io.specs.Failures.{Names}
-use Rattle.cert_tree.specs.declared.fault.TreeWhy.{TreeWhy}
-use Rattle.cert_tree.specs.Refusals.{Waiting, first_from, first_for, IsFaultFor}
-use Rattle.cert_tree.specs.Walks.{HaltsAt, fault_at, NoneMeets}
-use Rattle.cert_tree.proofs.ClosedWalk.{ClosesFor-unrefused}
+use Rattle.tree_faults.specs.declared.fault.TreeWhy.{TreeWhy}
+use Rattle.tree_faults.specs.Refusals.{Waiting, first_from, first_for, IsFaultFor}
+use Rattle.tree_faults.specs.Halts.{HaltsAt, fault_at}
+use Rattle.tree_faults.specs.NoEnds.{NoneMeets}
+use Rattle.tree_faults.proofs.ClosedWalk.{ClosesFor-unrefused}
 
 module _ (leaf dead : LeafModel) (facts : List Fact) (nodes : List Node) where
   -- a node at which the walk halts is the first that is refused

@@ -12,7 +12,7 @@ use Rattle.cert_base.specs.Rows.{variable_count}
 use Rattle.cert_base.specs.FactsAndCases.{can_meet_in, not_twice, case_of_twin, cases_of_split, cases_of_present, cases_of_trap, cases_of_siphon, cases_of_first}
 use Rattle.cert_base.specs.ClosingTests.{closes_by_sum, closes_by_residue}
 use Rattle.cert_base.specs.Closes.{name_below}
-use Rattle.cert_tree.specs.Rooms.{IsPassed}
+use Rattle.tree_faults.specs.Halts.{IsPassed}
 use Rattle.std.proofs.lemmas.Bool.{ltb-true}
 use Rattle.std.proofs.lemmas.List.Sums.{AllPass-from_list_all}
 use Rattle.cert_linear.specs.Conditions.{AreNamed}

@@ -6,7 +6,7 @@ use Rattle.std.proofs.lemmas.Bool.{leb-true, le-leb, lt-leb}
 use Rattle.std.proofs.lemmas.Bool.Decides.{nat_tests}
 use Rattle.std.specs.Cmp.{both_ways}
 use Rattle.cert_base.specs.declared.fact.Fact.{Fact}
-use Rattle.cert_tree.specs.Refusals.{all_fit}
+use Rattle.tree_faults.specs.Refusals.{all_fit}
 
 same_room : (n k : ℕ) → n ≤ 65536 → nat_le k (65536 - n) ≡ nat_le (n + k) 65536
 same_room n k l =

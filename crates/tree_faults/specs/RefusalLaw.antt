@@ -5,7 +5,7 @@ use Rattle.pop_net.specs.LeafModel.{LeafModel, IsLeaf}
 use Rattle.cert_base.specs.declared.node.Node.{Node}
 use Rattle.cert_base.specs.FactsAndCases.{base_list}
 use Rattle.cert_base.specs.Closes.{Closes}
-use Rattle.cert_tree.specs.Refusals.{first_refused}
+use Rattle.tree_faults.specs.Refusals.{first_refused}
 
 abbrev pub RefusalLaw : Type 0
 RefusalLaw =

@@ -10,9 +10,9 @@ use Rattle.cert_base.specs.declared.node.Node.{Node}
 use Rattle.cert_base.specs.declared.node.Node.TheVariants.{First}
 use Rattle.cert_base.specs.FactsAndCases.{base_list, cases_of_first, before_entry, cases_of_entry}
 use Rattle.cert_base.specs.Closes.{cases_for, MayStand, ClosesUnderFor, refuted, by_cases, by_first, ClosesEachFor, no_case, next_case, ClosesFor, Closes}
-use Rattle.cert_tree.specs.declared.fault.TreeWhy.{TreeWhy}
-use Rattle.cert_tree.specs.Refusals.{cases_at, entries, facts_before, all_fit, refusal, Waiting, waits, dead_at, cases_under, cases_below, go_on, first_from, first_for, first_refused}
-use Rattle.cert_tree.proofs.Passing.{Ways, refutes_all, divides, may_enter, unrefused-passes, refuting-unrefused, dividing-unrefused, entering-unrefused}
+use Rattle.tree_faults.specs.declared.fault.TreeWhy.{TreeWhy}
+use Rattle.tree_faults.specs.Refusals.{cases_at, entries, facts_before, all_fit, refusal, Waiting, waits, dead_at, cases_under, cases_below, go_on, first_from, first_for, first_refused}
+use Rattle.tree_faults.proofs.Passing.{Ways, refutes_all, divides, may_enter, unrefused-passes, refuting-unrefused, dividing-unrefused, entering-unrefused}
 
 -- the nodes close all cases that wait, and nothing is left
 pub data ClosesAll (leaf dead : LeafModel) : (waiting : List Waiting) (nodes : List Node) → Type 0 where

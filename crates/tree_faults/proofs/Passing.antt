@@ -14,9 +14,9 @@ use Rattle.cert_base.specs.declared.node.Node.TheVariants.{Linear, Residue, Spli
 use Rattle.cert_base.specs.FactsAndCases.{can_meet_in, cases_of_first, before_entry, cases_of_entry}
 use Rattle.cert_base.specs.ClosingTests.{may_have, all_named, may_add, may_add_modulo}
 use Rattle.cert_base.specs.Closes.{name_below, refutes, cases_for, where_in_range, opened, only_case, MayStand}
-use Rattle.cert_tree.specs.declared.fault.TreeWhy.{TreeWhy}
-use Rattle.cert_tree.specs.declared.fault.TreeWhy.TheVariants.{TooDeep, BadIndex, NoTwin, NotOpen, NotClosed, TooManyFacts}
-use Rattle.cert_tree.specs.Refusals.{names_in_range, has_twin, is_holds, opens_holds, refutes_facts, cases_at, entries, facts_before, all_fit, have_room, own_refusal, or_else, refusal}
+use Rattle.tree_faults.specs.declared.fault.TreeWhy.{TreeWhy}
+use Rattle.tree_faults.specs.declared.fault.TreeWhy.TheVariants.{TooDeep, BadIndex, NoTwin, NotOpen, NotClosed, TooManyFacts}
+use Rattle.tree_faults.specs.Refusals.{names_in_range, has_twin, is_holds, opens_holds, refutes_facts, cases_at, entries, facts_before, all_fit, have_room, own_refusal, or_else, refusal}
 
 -- the node refutes the facts and has no case, or it has cases of the end alone, or it asks who entered a set
 pub data Ways (leaf dead : LeafModel) (facts : List Fact) : Node → Type 0 where

@@ -3,13 +3,13 @@
 ghost use Rattle.std.specs.Prelude.{◌≡◌, length, nat_le};
 ghost use Rattle.std.specs.List.{list_all};
 ghost use Rattle.cert_base.specs.declared.fact.Fact.{Fact};
-ghost use Rattle.cert_tree.specs.Refusals.{all_fit};
+ghost use Rattle.tree_faults.specs.Refusals.{all_fit};
 
 use cert_base::{FACT_LIMIT, Fact};
 use pop_io::List;
 
 /// Whether these facts with those of each case are few enough.
-pub(crate) fn has_room(facts: &[Fact], cases: &[List<Fact>]) -> bool
+pub fn has_room(facts: &[Fact], cases: &[List<Fact>]) -> bool
     ensures { result ≡ all_fit facts.now cases.now }
 {
     if facts.len() > FACT_LIMIT {

@@ -13,7 +13,7 @@ use Rattle.cert_base.specs.Ends.{IsEndFor}
 use Rattle.cert_base.specs.GoalEnds.{IsWithin, IsWithinOne, EndsInside, HasOutside, HoldAtOutsideEnds}
 use Rattle.cert_base.proofs.ListTests.{list_any-contains}
 use Rattle.list_laws.proofs.Lists.{has_first, has_later}
-use Rattle.cert_tree.specs.Walks.{NoneMeets}
+use Rattle.tree_faults.specs.NoEnds.{NoneMeets}
 use Rattle.cert_base.proofs.Executions.{count_for, execution_has}
 
 listed : (set : List ℕ) (q : ℕ) → is_in set q ≡ true → Contains set q

@@ -8,7 +8,7 @@ use Rattle.cert_base.specs.declared.node.Node.{Node}
 use Rattle.cert_base.specs.declared.node.Node.TheVariants.{Linear, Residue, Split, Present, Twin, Trap, Siphon, Open, First}
 use Rattle.cert_base.specs.ProofLimits.{IsAscending, AreTermsWithin, IsNodeWithin, AreNodesWithin}
 use Rattle.cert_linear.specs.Conditions.{AreAscending, AreMultipliers}
-use Rattle.cert_tree.specs.Format.{IsWithinFormat}
+use Rattle.tree_faults.specs.Format.{IsWithinFormat}
 
 -- the first is below all others
 below_others : (t : Term) (terms : List Term) → IsAscending (map (λ u. u.at) (t ∷ terms)) → All (λ u. t.at < u.at) terms

@@ -1,6 +1,6 @@
 use Rattle.std.proofs.Common.{◌∙◌}
-use Rattle.cert_tree.proofs.ShortCases.{short-fit, long-fit}
-use Rattle.cert_tree.proofs.size.has_room.Goals as goal
+use Rattle.tree_faults.proofs.ShortCases.{short-fit, long-fit}
+use Rattle.tree_faults.proofs.size.has_room.Goals as goal
 
 pub returns : goal.returns
 returns c = c.are_short.ensures ∙ short-fit c.args.facts.now c.args.cases.now c.if-facts-gt-FACT_LIMIT.false

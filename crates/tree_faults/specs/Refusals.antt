@@ -16,11 +16,11 @@ use Rattle.cert_base.specs.FactsAndCases.{cases_of_entry}
 use Rattle.cert_base.specs.Closes.{name_below, refutes, cases_for, still, ClosesFor, Closes}
 use Rattle.cert_base.specs.Ends.{EndsRight}
 use Rattle.cert_base.specs.GoalEnds.{EndsInside}
-use Rattle.cert_tree.specs.Format.{IsWithinFormat}
-use Rattle.cert_tree.specs.declared.fault.TreeWhy.{TreeWhy}
-use Rattle.cert_tree.specs.declared.fault.TreeWhy.TheVariants.{Missing, TooDeep, BadIndex, NoTwin, NotOpen, NotClosed}
-use Rattle.cert_tree.specs.declared.fault.TreeWhy.TheVariants.{TooManyFacts, Rest}
-use Rattle.cert_tree.specs.declared.fault.TreeFault.{TreeFault}
+use Rattle.tree_faults.specs.Format.{IsWithinFormat}
+use Rattle.tree_faults.specs.declared.fault.TreeWhy.{TreeWhy}
+use Rattle.tree_faults.specs.declared.fault.TreeWhy.TheVariants.{Missing, TooDeep, BadIndex, NoTwin, NotOpen, NotClosed}
+use Rattle.tree_faults.specs.declared.fault.TreeWhy.TheVariants.{TooManyFacts, Rest}
+use Rattle.tree_faults.specs.declared.fault.TreeFault.{TreeFault}
 use Rattle.pop_io.specs.declared.failure.Failure.{Failure}
 use Rattle.pop_io.specs.Failures.{IfFault, OnlyMemory}
 

@@ -19,8 +19,8 @@ use Rattle.cert_base.specs.Rows.{constant_row, terms_from, single_row, input_row
 use Rattle.cert_base.specs.FactsAndCases.{helpers_starting, helpers_among, no_helper_facts, indicator, states_of, flow, two_agents_fact, differs, wrong_output_fact, base_list, outside_fact, goal_list, absent_fact, occurs_fact, alone_fact, not_twice, can_meet_in, cases_of_present, is_in, takes_from, puts_into, places_from, no_moves, no_start_facts, some_taken_fact, count_row, cases_of_trap, cases_of_siphon, plus, negated_row, signs_of, without_zeros, cases_of_split, over_count, open_tree, touches, enters, cases_of_first, is_about_inputs, before_entry, is_possible, cases_of_entry}
 use Rattle.cert_base.specs.Closes.{name_below, where_in_range, opened, only_case}
 use Rattle.cert_linear.specs.Conditions.{AreAscending, IsOrdered}
-use Rattle.cert_tree.specs.Refusals.{cases_at}
-use Rattle.cert_tree.specs.Format.{IsWithinFormat}
+use Rattle.tree_faults.specs.Refusals.{cases_at}
+use Rattle.tree_faults.specs.Format.{IsWithinFormat}
 
 abbrev Below : Term → Term → Type 0
 Below t u = t.at < u.at

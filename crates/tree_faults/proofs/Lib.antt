@@ -1,0 +1,10 @@
+pub mod Passing
+pub mod Formats
+pub mod ClosedWalk
+pub mod ShortCases
+pub mod Passed
+pub mod Ordered
+pub mod Refused
+pub mod FewFacts
+pub mod Verdicts
+pub mod Inside

@@ -1,0 +1,5 @@
+pub mod Format
+pub mod Refusals
+pub mod Halts
+pub mod NoEnds
+pub mod RefusalLaw
