@@ -9,12 +9,12 @@ use Rattle.pop_crowd.specs.declared.crowd.Meeting.{Meeting}
 use Rattle.pop_crowd.specs.Replay.{replay}
 use Rattle.run_spec.specs.declared.spec.RunSpec.{RunSpec}
 use Rattle.pair_workers.specs.Run.{joined}
-use Rattle.pop_journal.specs.Journal.{meeting_line}
-use Rattle.pop_journal.specs.Ending.{is_terminal, least_pair, common_output, ending_with, ending_until, last_is_undecided}
-use Rattle.pop_journal.specs.declared.last.Outcome.{Outcome}
-use Rattle.pop_journal.specs.declared.last.Outcome.TheVariants.{Agreed, Known}
+use Rattle.journal_text.specs.Journal.{meeting_line}
+use Rattle.journal_text.specs.Ending.{is_terminal, least_pair, common_output, ending_with, ending_until, last_is_undecided}
+use Rattle.journal_text.specs.declared.last.Outcome.{Outcome}
+use Rattle.journal_text.specs.declared.last.Outcome.TheVariants.{Agreed, Known}
 use Rattle.pop_io.specs.declared.failure.Failure.{Failure}
-use Rattle.pop_journal.specs.declared.fault.VerifyFault.{VerifyFault}
+use Rattle.journal_text.specs.declared.fault.VerifyFault.{VerifyFault}
 use Rattle.pop_journal.specs.Expected.{Compared, both, next_meeting, line_at_end, rounds_compared, tail_compared, whole_tail_until, first_difference}
 use Rattle.pop_journal.specs.Standing.{IsForEnd, Passes, lacking_behind}
 use Rattle.pop_journal.proofs.Spelled.{meeting_no_end}

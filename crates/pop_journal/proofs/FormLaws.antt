@@ -20,13 +20,13 @@ use Rattle.pair_workers.specs.Run.{meetings_of, turns_in, joined, IsRound}
 use Rattle.pair_workers.specs.WatchedRun.{IsWatchedRound}
 use Rattle.pair_workers.proofs.Rounds.{get_pushed, joined_push}
 use Rattle.pair_workers.proofs.WholeWatched.{watched_round}
-use Rattle.pop_journal.specs.declared.fault.JournalWhy.{JournalWhy}
-use Rattle.pop_journal.specs.declared.fault.JournalWhy.TheVariants.{Form, Worker, Agents, Round}
-use Rattle.pop_journal.specs.Journal.{round_line, meeting_line, round_lines}
+use Rattle.journal_text.specs.declared.fault.JournalWhy.{JournalWhy}
+use Rattle.journal_text.specs.declared.fault.JournalWhy.TheVariants.{Form, Worker, Agents, Round}
+use Rattle.journal_text.specs.Journal.{round_line, meeting_line, round_lines}
 use Rattle.pop_journal.specs.Rounds.{AreRounds, AreWatchedRounds, AreRoundsOf}
 use Rattle.pop_journal.specs.declared.form.MeetingLine.{MeetingLine}
 use Rattle.pop_journal.specs.Form.{at_the_end, three_numbers, told_words, told_in, Reading, all_rounds, wanted, settled, meeting_of, meeting_told, ends_inside, line_read, Parts, follow, lines_read}
-use Rattle.pop_journal.proofs.Texts.{round_lines-push}
+use Rattle.journal_text.proofs.Texts.{round_lines-push}
 use Rattle.pop_journal.proofs.Spelled.{mark_words, joined_right}
 use Rattle.pop_journal.proofs.Counts.{round_full}
 use Rattle.pop_journal.proofs.Due.{own_last, other_last}

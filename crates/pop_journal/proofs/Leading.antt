@@ -13,7 +13,7 @@ use Rattle.std.proofs.lemmas.Int.Digits.{digits_value_more}
 use Rattle.pop_crowd.specs.declared.crowd.Meeting.{Meeting}
 use Rattle.pop_lines.specs.Lines.{lines_of}
 use Rattle.pop_journal.specs.Form.{Tells}
-use Rattle.pop_journal.specs.Journal.{meeting_line}
+use Rattle.journal_text.specs.Journal.{meeting_line}
 use Rattle.pop_journal.proofs.Spelled.{IsSmall, joined_right}
 use Rattle.pop_lines.proofs.Unbroken.{line_first}
 use Rattle.pop_journal.proofs.Feeds.{meeting_unbroken}

@@ -1,6 +1,4 @@
-pub mod Texts
 pub mod Due
-pub mod Looks
 pub mod Spelled
 pub mod Holds
 pub mod Steps
@@ -18,6 +16,4 @@ pub mod OneSpelling
 pub mod RunLine
 pub mod Feeds
 pub mod Written
-pub mod MadeAlone
 pub mod PairLine
-pub mod WrittenAll

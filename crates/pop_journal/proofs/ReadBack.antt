@@ -15,9 +15,9 @@ use Rattle.run_spec.specs.declared.kind.RunKind.TheVariants.{Whole, Watched}
 use Rattle.pair_workers.specs.Run.{meetings_of, turns_in, joined, IsRound}
 use Rattle.pair_workers.specs.WatchedRun.{IsWatchedRound}
 use Rattle.pair_workers.proofs.WholeWatched.{watched_round}
-use Rattle.pop_journal.specs.declared.fault.JournalWhy.{JournalWhy}
-use Rattle.pop_journal.specs.declared.fault.JournalWhy.TheVariants.{Form, Worker, Agents, Round}
-use Rattle.pop_journal.specs.Journal.{round_line, meeting_line, round_lines}
+use Rattle.journal_text.specs.declared.fault.JournalWhy.{JournalWhy}
+use Rattle.journal_text.specs.declared.fault.JournalWhy.TheVariants.{Form, Worker, Agents, Round}
+use Rattle.journal_text.specs.Journal.{round_line, meeting_line, round_lines}
 use Rattle.pop_journal.specs.Rounds.{AreRounds, AreWatchedRounds, AreRoundsOf}
 use Rattle.pop_journal.specs.declared.form.MeetingLine.{MeetingLine}
 use Rattle.pop_journal.specs.Form.{Tells, three_numbers, told_words, told_in, Reading, all_rounds, wanted, settled, meeting_told, ends_inside, line_read, Parts, follow, lines_read}

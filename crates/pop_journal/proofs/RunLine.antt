@@ -16,7 +16,7 @@ use Rattle.run_spec.specs.declared.kind.RunKind.{RunKind}
 use Rattle.run_spec.specs.declared.kind.RunKind.TheVariants.{Whole, Watched}
 use Rattle.run_spec.specs.Kinds.{kind_word, most_workers_of}
 use Rattle.run_spec.specs.RunLimits.{IsWithinLimits}
-use Rattle.pop_journal.specs.Journal.{run_line}
+use Rattle.journal_text.specs.Journal.{run_line}
 use Rattle.pop_journal.specs.Form.{number_named, at_the_end, spec_words, spec_in}
 use Rattle.pop_journal.proofs.RunKinds.{few_workers}
 use Rattle.pop_journal.proofs.Spelled.{decimal_no_space}

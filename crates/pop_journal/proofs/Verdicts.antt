@@ -16,12 +16,13 @@ use Rattle.pair_workers.specs.WatchedRun.{IsWatchedRunUntil}
 use Rattle.pair_workers.specs.SameLanes.{HaveSameLanes}
 use Rattle.pop_io.specs.declared.failure.Failure.{Failure}
 use Rattle.pop_io.specs.declared.failure.Failure.TheVariants.{Fault, NoMemory}
-use Rattle.pop_journal.specs.declared.fault.VerifyFault.{VerifyFault}
-use Rattle.pop_journal.specs.declared.fault.VerifyFault.TheVariants.{Differs}
+use Rattle.journal_text.specs.declared.fault.VerifyFault.{VerifyFault}
+use Rattle.journal_text.specs.declared.fault.VerifyFault.TheVariants.{Differs}
 use Rattle.pop_journal.specs.declared.journal.Journal.{Journal}
 use Rattle.pop_journal.specs.Rounds.{AreRoundsOf}
-use Rattle.pop_journal.specs.declared.last.Outcome.{Outcome}
-use Rattle.pop_journal.specs.Expected.{Difference, first_difference, journal_compared_until, whole_tail_until, HoldsUntil}
+use Rattle.journal_text.specs.declared.last.Outcome.{Outcome}
+use Rattle.journal_text.specs.Difference.{Difference}
+use Rattle.pop_journal.specs.Expected.{first_difference, journal_compared_until, whole_tail_until, HoldsUntil}
 use Rattle.pop_journal.specs.Standing.{Passes}
 use Rattle.pop_journal.proofs.Holds.{run_of_none, none_of_run}
 use Rattle.pop_journal.proofs.RunKinds.{are_watched, is_watched_until, is_of_kind}

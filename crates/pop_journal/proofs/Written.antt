@@ -18,15 +18,15 @@ use Rattle.run_spec.specs.RunLimits.{IsWithinLimits}
 use Rattle.pair_workers.specs.Run.{joined}
 use Rattle.pair_workers.specs.WatchedRun.{IsWatchedRound, IsWatchedRunUntil, IsRunOf, IsRunOfUntil}
 use Rattle.pop_journal.specs.declared.journal.Journal.{Journal}
-use Rattle.pop_journal.specs.Journal.{run_line, round_lines, run_lines, last_line, text_of, journal_text}
+use Rattle.journal_text.specs.Journal.{run_line, round_lines, run_lines, last_line, text_of, journal_text}
 use Rattle.pop_journal.specs.Rounds.{AreRounds, AreWatchedRounds, AreRoundsOf}
-use Rattle.pop_journal.specs.Ending.{ending_of, ending_until}
-use Rattle.pop_journal.specs.declared.last.Outcome.{Outcome}
-use Rattle.pop_journal.specs.declared.last.Outcome.TheVariants.{Agreed}
+use Rattle.journal_text.specs.Ending.{ending_of, ending_until}
+use Rattle.journal_text.specs.declared.last.Outcome.{Outcome}
+use Rattle.journal_text.specs.declared.last.Outcome.TheVariants.{Agreed}
 use Rattle.pop_journal.specs.Expected.{whole_tail, whole_tail_until}
 use Rattle.pop_journal.specs.Form.{spec_in, Reading, Parts, Out, lines_read, under, with_spec, journal_in}
 use Rattle.pop_io.specs.declared.failure.Failure.{Failure}
-use Rattle.pop_journal.specs.declared.fault.JournalFault.{JournalFault}
+use Rattle.journal_text.specs.declared.fault.JournalFault.{JournalFault}
 use Rattle.pop_journal.specs.ReadLines.{ReadsJournal}
 use Rattle.pop_journal.specs.Laws.{IsOneSpelling, IsOneSpellingUntil, IsRunReadBackUntil, IsWrittenHeld, IsWrittenHeldUntil}
 use Rattle.pop_journal.proofs.Spelled.{IsSmall}

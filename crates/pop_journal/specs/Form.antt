@@ -14,9 +14,9 @@ use Rattle.run_spec.specs.declared.spec.TheConstants.{TURN_LIMIT, MEETING_LIMIT,
 use Rattle.run_spec.specs.declared.spec.RunSpec.{RunSpec}
 use Rattle.pair_workers.specs.Run.{made_by, turns_in}
 use Rattle.pop_journal.specs.declared.form.MeetingLine.{MeetingLine}
-use Rattle.pop_journal.specs.Journal.{round_line}
-use Rattle.pop_journal.specs.declared.fault.JournalWhy.{JournalWhy}
-use Rattle.pop_journal.specs.declared.fault.JournalWhy.TheVariants.{Missing, Form, Worker, Agents, Round}
+use Rattle.journal_text.specs.Journal.{round_line}
+use Rattle.journal_text.specs.declared.fault.JournalWhy.{JournalWhy}
+use Rattle.journal_text.specs.declared.fault.JournalWhy.TheVariants.{Missing, Form, Worker, Agents, Round}
 
 -- a number in its printed form and within these limits, with the words after it
 abbrev pub number_first : ℕ → ℕ → List (List ℕ) → Option (ℕ × List (List ℕ))

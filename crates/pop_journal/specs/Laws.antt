@@ -14,10 +14,10 @@ use Rattle.run_spec.specs.RunLimits.{IsWithinLimits}
 use Rattle.pair_workers.specs.Run.{joined}
 use Rattle.pair_workers.specs.WatchedRun.{IsRunOfUntil}
 use Rattle.pop_journal.specs.declared.journal.Journal.{Journal}
-use Rattle.pop_journal.specs.Journal.{journal_text}
-use Rattle.pop_journal.specs.declared.last.Outcome.{Outcome}
-use Rattle.pop_journal.specs.declared.last.Outcome.TheVariants.{Agreed}
-use Rattle.pop_journal.specs.Ending.{ending_until}
+use Rattle.journal_text.specs.Journal.{journal_text}
+use Rattle.journal_text.specs.declared.last.Outcome.{Outcome}
+use Rattle.journal_text.specs.declared.last.Outcome.TheVariants.{Agreed}
+use Rattle.journal_text.specs.Ending.{ending_until}
 use Rattle.pop_journal.specs.Expected.{whole_tail_until, HoldsUntil}
 use Rattle.pop_journal.specs.Form.{journal_in}
 use Rattle.pop_journal.specs.ReadLines.{ReadsJournal}

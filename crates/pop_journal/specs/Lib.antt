@@ -1,13 +1,9 @@
-pub mod Journal
-pub mod Ending
 pub mod Expected
 pub mod Rounds
 pub mod Standing
 pub mod Form
 pub mod ReadLines
 pub mod Laws
-pub mod Reasons
-pub mod WrittenRun
 pub mod FirstPair
 pub mod Calls
-pub mod WrittenRound
+pub mod WatchedLast

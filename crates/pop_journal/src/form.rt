@@ -12,9 +12,9 @@ ghost use Rattle.run_spec.specs.Kinds.{most_workers_of};
 ghost use Rattle.run_spec.specs.RunLimits.{IsWithinLimits};
 ghost use Rattle.std.specs.Option.{option_copied};
 
-use crate::fault::JournalWhy;
 use crate::reading::ReadContext;
 use crate::short::short_meeting;
+use journal_text::JournalWhy;
 use pop_crowd::Meeting;
 use pop_io::{SHARD_LIMIT, WORKER_LIMIT};
 use pop_lines::{cut, next_line, printed_number, printed_within};

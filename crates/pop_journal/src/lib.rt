@@ -1,34 +1,29 @@
-//! Journals: the lines that record a run.
-//! It stands on `pair_workers`, `pop_crowd` and `pop_lines`.
+//! Journals: written of a run that was kept, read, and compared with a run made anew.
+//! It stands on `pair_workers` and `journal_text`.
 //! The layer above uses: `push_journal` adds `journal_text`, `read_journal` reads `journal_in`, `verify` tests `Holds`.
 #![tactic(auto)]
 
-mod alone;
-mod fault;
 mod form;
 mod journal;
 mod lacking;
-mod last;
 mod law;
 mod limits;
-mod page;
 mod read;
 mod reading;
+mod record;
 mod replay_context;
 mod replayer;
 mod short;
-mod sink;
 mod verdict;
-mod write;
+mod watched;
 
-pub use alone::push_run_alone;
-pub use fault::{JournalFault, JournalWhy, VerifyFault};
 pub use journal::{Journal, LINE_LIMIT};
-pub use last::{Last, Outcome};
+pub use journal_text::{
+    JournalFault, JournalWhy, Last, Outcome, VerifyFault, push_end, push_last_line,
+};
 pub use law::{one_spelling, one_spelling_until, written_holds, written_holds_until};
-pub use limits::MEETING_ROOM;
 pub use read::read_journal;
+pub use record::{RunRecord, push_journal, write_journal};
 pub use short::short_pair;
-pub use sink::WrittenRounds;
 pub use verdict::{verify, verify_settled};
-pub use write::{RunRecord, push_end, push_journal, push_last_line, write_journal};
+pub use watched::{read_watched, verify_watched, write_watched};

@@ -3,7 +3,6 @@
 use crate::journal::LINE_LIMIT;
 use pair_workers::ROUND_TURNS;
 use pop_io::WORKER_LIMIT;
-use pop_lines::NUMBER_ROOM;
 use run_spec::TURN_LIMIT;
 
 /// The most rounds of a run: no worker makes more than `TURN_LIMIT` meetings.
@@ -14,9 +13,3 @@ const ROUND_LINES: u64 = 1 + WORKER_LIMIT as u64 * ROUND_TURNS;
 
 /// The greatest number of a round's first meeting line: before it are the run's line, its own, and whole rounds.
 pub(crate) const FIRST_MEETING_LIMIT: u64 = LINE_LIMIT + 2 + ROUND_LIMIT * ROUND_LINES;
-
-/// The most bytes of a meeting line: three numbers, two spaces, a mark and a line feed.
-pub const MEETING_ROOM: usize = 3 * NUMBER_ROOM + 5;
-
-/// The bytes of a page, on which lines are put together.
-pub(crate) const PAGE_SIZE: usize = 8_192;

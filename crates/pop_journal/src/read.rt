@@ -4,21 +4,21 @@ ghost use Rattle.std.specs.Prelude.{◌≡◌, ◌+◌, ◌*◌, ◌<◌, ◌≤
 ghost use Rattle.std.specs.Prelude.{None, Ok, Err, IfOk};
 ghost use Rattle.std.specs.Str.{bytes_eq};
 ghost use Rattle.pop_journal.specs.Calls.{IsReadFrom};
-ghost use Rattle.pop_journal.specs.Journal.{round_line};
+ghost use Rattle.journal_text.specs.Journal.{round_line};
 ghost use Rattle.pop_lines.specs.Lines.{lines_of};
 ghost use Rattle.run_spec.specs.Kinds.{most_workers_of};
 ghost use Rattle.run_spec.specs.RunLimits.{IsWithinLimits};
 ghost use Rattle.pair_workers.specs.Run.{turns_in};
-ghost use Rattle.pop_journal.specs.declared.fault.JournalFault.TheVariants.{Out};
+ghost use Rattle.journal_text.specs.declared.fault.JournalFault.TheVariants.{Out};
 ghost use Rattle.pop_io.specs.declared.failure.Failure.TheVariants.{Fault};
 ghost use Rattle.pop_journal.specs.ReadLines.{ReadsRound, ReadsRounds, ReadsJournal};
 
-use crate::fault::{JournalFault, JournalWhy};
 use crate::form::{checked, next_told, spec_of, stops_here};
 use crate::journal::{Journal, LINE_LIMIT};
 use crate::limits::FIRST_MEETING_LIMIT;
 use crate::reading::{ReadContext, TextPlace};
 use itoa::Buffer;
+use journal_text::{JournalFault, JournalWhy};
 use pair_workers::ROUND_TURNS;
 use pop_crowd::Meeting;
 use pop_io::{Failure, List, WORKER_LIMIT};

@@ -4,7 +4,7 @@ ghost use Rattle.terminal_test.specs.TableNet.{table_net};
 ghost use Rattle.pair_workers.specs.SameLanes.{HaveSameLanes};
 
 use crate::journal::Journal;
-use crate::last::Outcome;
+use journal_text::Outcome;
 use pop_net::Net;
 use terminal_test::PairTable;
 

@@ -9,16 +9,15 @@ ghost use Rattle.pair_workers.specs.SameLanes.{HaveSameLanes};
 ghost use Rattle.pair_workers.specs.Run.{joined};
 ghost use Rattle.pop_journal.specs.Rounds.{AreWatchedRounds};
 ghost use Rattle.pop_journal.specs.Calls.{CanVerify, IsVerified, IsVerifiedUntil};
-ghost use Rattle.pop_journal.specs.declared.last.Outcome.TheVariants.{Known};
+ghost use Rattle.journal_text.specs.declared.last.Outcome.TheVariants.{Known};
 ghost use Rattle.pop_journal.specs.Expected.{journal_compared_until};
 ghost use Rattle.pop_journal.specs.Standing.{IsReplaying, Passes};
 
-use crate::fault::VerifyFault;
 use crate::journal::{Journal, LINE_LIMIT};
 use crate::lacking::lacking_last;
-use crate::last::Outcome;
 use crate::replay_context::{EndPlace, ReplayContext};
 use crate::replayer::Replayer;
+use journal_text::{Outcome, VerifyFault};
 use pair_workers::first_pickers;
 use pop_crowd::Crowd;
 use pop_io::{Failure, NoMemory};

@@ -19,9 +19,9 @@ use Rattle.run_spec.specs.declared.spec.RunSpec.{RunSpec}
 use Rattle.pair_workers.specs.Run.{joined}
 use Rattle.pair_workers.specs.SameLanes.{HaveSameLanes}
 use Rattle.pair_workers.specs.WatchedRun.{IsRunOfUntil}
-use Rattle.pop_journal.specs.declared.last.Last.{Last}
-use Rattle.pop_journal.specs.Ending.{common_output, quiet_ending, rest_ending, ending_until}
-use Rattle.pop_journal.proofs.Looks.{common_some}
+use Rattle.journal_text.specs.declared.last.Last.{Last}
+use Rattle.journal_text.specs.Ending.{common_output, quiet_ending, rest_ending, ending_until}
+use Rattle.journal_text.proofs.Looks.{common_some}
 use Rattle.pop_journal.proofs.RunKinds.{is_watched_until}
 use Rattle.goal_settle.specs.Chosen.{proof_at}
 use Rattle.goal_settle.proofs.HushedLeaves.{states_listed}

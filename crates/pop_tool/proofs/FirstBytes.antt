@@ -1,7 +1,7 @@
 -- The first byte of a text tells whether it is a refusal, a rejection or a difference.
 use Rattle.std.proofs.Common.{◌≡◌, ℕ, List, get_or, refl}
 use Rattle.pop_lines.specs.Lines.{ended}
-use Rattle.pop_journal.specs.Expected.{Difference}
+use Rattle.journal_text.specs.Difference.{Difference}
 use Rattle.pop_checker.specs.declared.fault.Rejected.{Rejected}
 use Rattle.pop_checker.specs.declared.fault.Rejected.TheVariants.{Layers, Tree, Predicate}
 use Rattle.goal_checker.specs.declared.fault.StableRejected.{StableRejected}

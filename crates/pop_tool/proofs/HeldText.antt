@@ -12,9 +12,9 @@ use Rattle.run_spec.specs.Kinds.{most_workers_of}
 use Rattle.run_spec.specs.RunLimits.{IsWithinLimits}
 use Rattle.pair_workers.specs.Run.{joined}
 use Rattle.pair_workers.specs.WatchedRun.{IsRunOfUntil}
-use Rattle.pop_journal.specs.declared.last.Last.{Last}
-use Rattle.pop_journal.specs.Journal.{run_line, round_lines, journal_text}
-use Rattle.pop_journal.specs.Ending.{ending_until}
+use Rattle.journal_text.specs.declared.last.Last.{Last}
+use Rattle.journal_text.specs.Journal.{run_line, round_lines, journal_text}
+use Rattle.journal_text.specs.Ending.{ending_until}
 use Rattle.pop_journal.specs.Expected.{whole_tail_until, HoldsUntil}
 use Rattle.pop_journal.specs.Form.{journal_in}
 use Rattle.pop_journal.specs.Laws.{IsRunReadBackUntil}

@@ -18,7 +18,8 @@ use Rattle.pair_workers.specs.Run.{joined}
 use Rattle.pop_journal.specs.declared.journal.Journal.{Journal}
 use Rattle.pop_journal.specs.Rounds.{AreRoundsOf}
 use Rattle.pop_journal.specs.Form.{Parts, Out, journal_in}
-use Rattle.pop_journal.specs.Expected.{Difference, first_difference, journal_compared_until, HoldsUntil}
+use Rattle.journal_text.specs.Difference.{Difference}
+use Rattle.pop_journal.specs.Expected.{first_difference, journal_compared_until, HoldsUntil}
 use Rattle.pop_journal.proofs.Written.{journal_form, few_meetings}
 use Rattle.pop_journal.proofs.Verdicts.{none_held_until, held_none_until}
 use Rattle.goal_checker.specs.declared.fault.StableRejected.{StableRejected}

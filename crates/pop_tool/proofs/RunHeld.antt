@@ -18,9 +18,9 @@ use Rattle.pop_words.specs.Words.{meaning_of, run_command, replay_command}
 use Rattle.pop_words.proofs.Limits.{run_bounded}
 use Rattle.pair_workers.specs.Run.{joined}
 use Rattle.pop_journal.specs.declared.journal.Journal.{Journal}
-use Rattle.pop_journal.specs.declared.last.Last.{Last}
-use Rattle.pop_journal.specs.Journal.{journal_text}
-use Rattle.pop_journal.specs.Ending.{ending_until}
+use Rattle.journal_text.specs.declared.last.Last.{Last}
+use Rattle.journal_text.specs.Journal.{journal_text}
+use Rattle.journal_text.specs.Ending.{ending_until}
 use Rattle.pop_journal.specs.Expected.{whole_tail_until, HoldsUntil}
 use Rattle.pop_journal.specs.Laws.{IsRunReadBackUntil}
 use Rattle.pop_lines.proofs.Unbroken.{IsUnbroken}

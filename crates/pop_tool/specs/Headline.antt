@@ -22,9 +22,9 @@ use Rattle.pop_words.specs.Words.{meaning_of}
 use Rattle.pop_words.specs.Vars.{vars_of}
 use Rattle.pair_workers.specs.Run.{joined}
 use Rattle.pair_workers.specs.WatchedRun.{IsRunOf}
-use Rattle.pop_journal.specs.Journal.{journal_text}
-use Rattle.pop_journal.specs.declared.last.Last.{Last}
-use Rattle.pop_journal.specs.declared.last.Last.TheVariants.{Verdict}
+use Rattle.journal_text.specs.Journal.{journal_text}
+use Rattle.journal_text.specs.declared.last.Last.{Last}
+use Rattle.journal_text.specs.declared.last.Last.TheVariants.{Verdict}
 use Rattle.cert_base.specs.ProofBound.{proof_bound}
 use Rattle.cert_base.specs.ValidProof.{ValidProof}
 use Rattle.cert_json.specs.BundleFile.{IsBundleFile}

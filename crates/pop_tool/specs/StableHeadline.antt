@@ -13,9 +13,9 @@ use Rattle.run_spec.specs.declared.kind.RunKind.{RunKind}
 use Rattle.run_spec.specs.declared.spec.RunSpec.{RunSpec}
 use Rattle.pair_workers.specs.Run.{joined}
 use Rattle.pair_workers.specs.WatchedRun.{IsRunOfUntil}
-use Rattle.pop_journal.specs.Journal.{journal_text}
-use Rattle.pop_journal.specs.declared.last.Last.{Last}
-use Rattle.pop_journal.specs.declared.last.Last.TheVariants.{Settled}
+use Rattle.journal_text.specs.Journal.{journal_text}
+use Rattle.journal_text.specs.declared.last.Last.{Last}
+use Rattle.journal_text.specs.declared.last.Last.TheVariants.{Settled}
 use Rattle.goal_json.specs.declared.bundle.StableBundle.{StableBundle}
 use Rattle.goal_json.specs.StableFile.{has_goals, IsStableFile}
 use Rattle.net_goals.specs.OutputStable.{IsOutputStable}

@@ -3,3 +3,4 @@ pub mod Parts
 pub mod MoreMeetings
 pub mod WatchedRounds
 pub mod RunsOfKind
+pub mod WrittenAll

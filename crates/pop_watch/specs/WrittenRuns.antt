@@ -6,7 +6,7 @@ use Rattle.pop_crowd.specs.declared.crowd.Meeting.{Meeting}
 use Rattle.run_spec.specs.declared.kind.RunKind.{RunKind}
 use Rattle.run_spec.specs.declared.spec.RunSpec.{RunSpec}
 use Rattle.pair_workers.specs.declared.alone.End.{End}
-use Rattle.pop_journal.specs.Journal.{run_lines, text_of}
+use Rattle.journal_text.specs.Journal.{run_lines, text_of}
 pub use Rattle.pop_watch.specs.RunsOfKind.{IsRoundOf, IsRunOfKind, IsRunOfKindUntil}
 
 -- a run of this kind from a crowd to this end until it is terminal in rest, and its lines after earlier text

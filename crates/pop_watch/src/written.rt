@@ -5,11 +5,11 @@ ghost use Rattle.pop_net.specs.Lanes.{AreValid};
 ghost use Rattle.run_spec.specs.Kinds.{most_workers_of};
 ghost use Rattle.pop_watch.specs.WrittenRuns.{IsWrittenRunOfUntil};
 
+use crate::sink::WrittenRounds;
 use crate::threads::run_on_threads;
 use pair_workers::{End, RunContext};
 use pop_crowd::Crowd;
 use pop_io::{Gate, NoMemory};
-use pop_journal::WrittenRounds;
 use run_spec::RunKind;
 use std::alloc::Global;
 use std::sync::Wait;

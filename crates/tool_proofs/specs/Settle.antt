@@ -6,8 +6,8 @@ use Rattle.pres_ast.specs.PredicateValue.{predicate_value}
 use Rattle.pop_net.specs.NetModel.{NetModel, CrowdModel, number_of_helpers}
 use Rattle.pop_net.specs.InputCrowd.{IsInput, input_crowd}
 use Rattle.pop_crowd.specs.Tally.{crowd_lines}
-use Rattle.pop_journal.specs.Journal.{last_line, text_of}
-use Rattle.pop_journal.specs.declared.last.Last.TheVariants.{Verdict, Settled}
+use Rattle.journal_text.specs.Journal.{last_line, text_of}
+use Rattle.journal_text.specs.declared.last.Last.TheVariants.{Verdict, Settled}
 use Rattle.cert_base.specs.ProofBound.{proof_bound}
 use Rattle.cert_json.specs.declared.bundle.Bundle.{Bundle}
 use Rattle.pop_settle.specs.declared.limits.TheConstants.{TAKE_LIMIT}

@@ -3,7 +3,7 @@
 ghost use Rattle.std.specs.Prelude.{◌≡◌, ◌++◌, map, IfOk, OnOk};
 ghost use Rattle.pop_lines.specs.Lines.{lines_of, ended};
 ghost use Rattle.pop_net.specs.Lanes.{crowd_of, AreValid};
-ghost use Rattle.pop_journal.specs.Journal.{text_of};
+ghost use Rattle.journal_text.specs.Journal.{text_of};
 ghost use Rattle.pop_settle.specs.Settling.{HasLayers};
 ghost use Rattle.tool_texts.specs.Steps.{Obeys};
 ghost use Rattle.tool_bundles.specs.Start.{IsStart};

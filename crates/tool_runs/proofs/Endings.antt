@@ -6,7 +6,8 @@ use Rattle.run_spec.specs.declared.spec.RunSpec.{RunSpec}
 use Rattle.pop_net.specs.InputCrowd.{input_crowd}
 use Rattle.pair_workers.specs.Run.{joined}
 use Rattle.pop_journal.specs.Form.{journal_in}
-use Rattle.pop_journal.specs.Expected.{Difference, first_difference, journal_compared_until}
+use Rattle.journal_text.specs.Difference.{Difference}
+use Rattle.pop_journal.specs.Expected.{first_difference, journal_compared_until}
 use Rattle.goal_checker.specs.declared.fault.StableRejected.{StableRejected}
 use Rattle.tool_texts.specs.declared.refusal.Refusal.{Refusal}
 use Rattle.tool_texts.specs.declared.output.Output.{Output}

@@ -12,8 +12,8 @@ use Rattle.pair_workers.specs.WatchedRun.{IsWatchedRunUntil}
 use Rattle.pair_workers.specs.Ends.{IsRunFromUntil}
 use Rattle.pair_workers.specs.declared.alone.End.{End}
 use Rattle.pair_workers.specs.declared.alone.RunEnd.{RunEnd}
-use Rattle.pop_journal.specs.Journal.{run_lines, text_of}
-use Rattle.pop_journal.specs.WrittenRun.{IsWrittenRunUntil}
+use Rattle.journal_text.specs.Journal.{run_lines, text_of}
+use Rattle.pop_watch.specs.WrittenAlone.{IsWrittenRunUntil}
 use Rattle.pop_watch.specs.WatchedEnds.{IsWatchedRunFromUntil}
 use Rattle.pop_watch.specs.WrittenRuns.{IsRunOfKindUntil, IsWrittenRunOfUntil}
 use Rattle.tool_texts.specs.declared.output.Output.{Output}

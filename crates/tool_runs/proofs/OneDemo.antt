@@ -5,8 +5,8 @@ use Rattle.pop_crowd.specs.declared.crowd.Meeting.{Meeting}
 use Rattle.run_spec.specs.declared.kind.RunKind.TheVariants.{Whole}
 use Rattle.pair_workers.proofs.OnlyRun.{only_run}
 use Rattle.pres_ast.specs.PredicateValue.{predicate_value}
-use Rattle.pop_journal.specs.Journal.{text_of}
-use Rattle.pop_journal.specs.declared.last.Last.TheVariants.{Verdict}
+use Rattle.journal_text.specs.Journal.{text_of}
+use Rattle.journal_text.specs.declared.last.Last.TheVariants.{Verdict}
 use Rattle.pop_demo.specs.DemoCase.{demo_tree, demo_counts, demo_spec}
 use Rattle.tool_texts.specs.declared.refusal.Refusal.{Refusal}
 use Rattle.tool_texts.specs.declared.output.Output.{Output}

@@ -11,9 +11,9 @@ use Rattle.pop_crowd.specs.declared.crowd.Meeting.{Meeting}
 use Rattle.pop_words.specs.declared.command.TheConstants.{DEMO_LIMIT}
 use Rattle.pair_workers.specs.Run.{IsRun, joined}
 use Rattle.pair_workers.specs.declared.alone.RunEnd.{RunEnd}
-use Rattle.pop_journal.specs.Journal.{last_line, text_of}
-use Rattle.pop_journal.specs.declared.last.Last.{Last}
-use Rattle.pop_journal.specs.declared.last.Last.TheVariants.{Verdict}
+use Rattle.journal_text.specs.Journal.{last_line, text_of}
+use Rattle.journal_text.specs.declared.last.Last.{Last}
+use Rattle.journal_text.specs.declared.last.Last.TheVariants.{Verdict}
 use Rattle.pop_demo.specs.DemoCase.{names_of_demo, demo_tree, demo_pred, demo_counts, demo_spec}
 use Rattle.cert_base.specs.declared.proof.Proof.{Proof}
 use Rattle.cert_base.specs.ProofLimits.{IsProofWithin}

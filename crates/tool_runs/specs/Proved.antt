@@ -4,10 +4,10 @@ use Rattle.pres_ast.specs.PredModel.{PredModel}
 use Rattle.pres_ast.specs.PredicateValue.{predicate_value}
 use Rattle.pop_net.specs.NetModel.{NetModel}
 use Rattle.pair_workers.specs.SameLanes.{HaveSameLanes}
-use Rattle.pop_journal.specs.declared.last.Last.{Last}
-use Rattle.pop_journal.specs.declared.last.Last.TheVariants.{Verdict, Settled}
-use Rattle.pop_journal.specs.declared.last.Outcome.{Outcome}
-use Rattle.pop_journal.specs.declared.last.Outcome.TheVariants.{Agreed, Known}
+use Rattle.journal_text.specs.declared.last.Last.{Last}
+use Rattle.journal_text.specs.declared.last.Last.TheVariants.{Verdict, Settled}
+use Rattle.journal_text.specs.declared.last.Outcome.{Outcome}
+use Rattle.journal_text.specs.declared.last.Outcome.TheVariants.{Agreed, Known}
 use Rattle.tool_bundles.specs.declared.bundle.AnyBundle.{AnyBundle}
 use Rattle.tool_runs.specs.declared.proved.Proved.{Proved}
 use Rattle.tool_runs.specs.declared.proved.Proved.TheVariants as proved

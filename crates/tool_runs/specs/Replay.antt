@@ -7,11 +7,12 @@ use Rattle.pop_net.specs.InputCrowd.{input_crowd}
 use Rattle.run_spec.specs.declared.kind.RunKind.{RunKind}
 use Rattle.run_spec.specs.declared.spec.RunSpec.{RunSpec}
 use Rattle.pair_workers.specs.Run.{joined}
-use Rattle.pop_journal.specs.declared.fault.JournalFault.{JournalFault}
-use Rattle.pop_journal.specs.declared.fault.JournalFault.TheVariants as fault
+use Rattle.journal_text.specs.declared.fault.JournalFault.{JournalFault}
+use Rattle.journal_text.specs.declared.fault.JournalFault.TheVariants as fault
 use Rattle.pop_journal.specs.declared.journal.Journal.{Journal}
 use Rattle.pop_journal.specs.Form.{Parts, Out, journal_in}
-use Rattle.pop_journal.specs.Expected.{Difference, first_difference, journal_compared_until}
+use Rattle.journal_text.specs.Difference.{Difference}
+use Rattle.pop_journal.specs.Expected.{first_difference, journal_compared_until}
 use Rattle.goal_checker.specs.declared.fault.StableRejected.{StableRejected}
 use Rattle.tool_texts.specs.declared.refusal.Refusal.{Refusal}
 use Rattle.tool_texts.specs.declared.refusal.Refusal.TheVariants as refusal

@@ -9,9 +9,9 @@ use Rattle.run_spec.specs.declared.spec.RunSpec.{RunSpec}
 use Rattle.pair_workers.specs.WatchedRun.{IsRunOfUntil}
 use Rattle.pair_workers.specs.declared.alone.End.{End}
 use Rattle.pair_workers.specs.declared.alone.End.TheVariants.{Terminal, Open}
-use Rattle.pop_journal.specs.Journal.{journal_text}
-use Rattle.pop_journal.specs.declared.last.Last.{Last}
-use Rattle.pop_journal.specs.declared.last.Last.TheVariants as last
+use Rattle.journal_text.specs.Journal.{journal_text}
+use Rattle.journal_text.specs.declared.last.Last.{Last}
+use Rattle.journal_text.specs.declared.last.Last.TheVariants as last
 use Rattle.goal_checker.specs.declared.fault.StableRejected.{StableRejected}
 use Rattle.tool_texts.specs.declared.refusal.Refusal.{Refusal}
 use Rattle.tool_texts.specs.declared.output.Ending.{Ending}

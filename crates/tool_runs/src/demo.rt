@@ -4,7 +4,7 @@ ghost use Rattle.std.specs.Prelude.{◌≡◌, ◌++◌, ◌<◌, ◌≤◌, ◌
 ghost use Rattle.pop_lines.specs.Lines.{ended};
 ghost use Rattle.pop_words.specs.declared.command.TheConstants.{DEMO_LIMIT};
 ghost use Rattle.pair_workers.specs.Run.{joined};
-ghost use Rattle.pop_journal.specs.Journal.{text_of};
+ghost use Rattle.journal_text.specs.Journal.{text_of};
 ghost use Rattle.pop_demo.specs.DemoCase.{names_of_demo};
 ghost use Rattle.comp_net.specs.BuiltNet.{built_net};
 ghost use Rattle.comp_net.specs.CompileFaults.{fault_with};

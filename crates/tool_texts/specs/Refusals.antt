@@ -4,7 +4,7 @@ use Rattle.pop_lines.specs.Lines.{ended}
 use Rattle.json_shape.specs.Reasons.{pred_reason, reason}
 use Rattle.pop_words.specs.declared.command.Usage.{Usage}
 use Rattle.pop_words.specs.Reasons.{bad_word}
-use Rattle.pop_journal.specs.Reasons.{journal_reason}
+use Rattle.journal_text.specs.Reasons.{journal_reason}
 use Rattle.tool_texts.specs.declared.refusal.LineWhy.{LineWhy}
 use Rattle.tool_texts.specs.declared.refusal.LineWhy.TheVariants as line
 use Rattle.tool_texts.specs.declared.refusal.Refusal.{Refusal}

@@ -1,5 +1,5 @@
 //! What the text of every command is made of: refusals, rejections, differences, statuses, input lines and JSON.
-//! It stands on `pop_lines`, `pop_words`, `json_shape`, `pop_journal` and `pop_checker`.
+//! It stands on `pop_lines`, `pop_words`, `json_shape`, `journal_text` and `pop_checker`.
 //! The layer above uses: an `Output` for a refusal, rejection or difference has exactly the text that `specs` defines.
 #![tactic(auto)]
 

@@ -6,7 +6,7 @@ ghost use Rattle.tool_texts.specs.Refusals.{line_reason, refusal_text};
 use crate::output::{Ending, Output};
 use json_shape::{PredWhy, Why};
 use pop_io::Text;
-use pop_journal::JournalWhy;
+use journal_text::JournalWhy;
 use pop_words::Usage;
 use std::alloc::{AllocError, Global};
 use std::fmt;

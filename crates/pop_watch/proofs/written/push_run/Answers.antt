@@ -1,7 +1,7 @@
 use Rattle.std.proofs.Common.{List, ℕ, ◌++◌, ap, ◌∙◌}
-use Rattle.pop_journal.specs.Journal.{round_lines, text_of}
-use Rattle.pop_journal.proofs.MadeAlone.{ended_text}
-use Rattle.pop_journal.proofs.WrittenAll.{all_written}
+use Rattle.journal_text.specs.Journal.{round_lines, text_of}
+use Rattle.journal_text.proofs.MadeAlone.{ended_text}
+use Rattle.pop_watch.proofs.WrittenAll.{all_written}
 use Rattle.pop_watch.proofs.written.push_run.Goals as goal
 
 pub returns : goal.returns

@@ -4,9 +4,9 @@ use Rattle.pop_net.specs.NetModel.{NetModel, CrowdModel}
 use Rattle.pop_net.specs.Lanes.{crowd_of}
 use Rattle.pop_net.specs.InputCrowd.{input_crowd}
 use Rattle.pair_workers.specs.Run.{IsRun}
-use Rattle.pop_journal.specs.Journal.{text_of}
-use Rattle.pop_journal.specs.declared.last.Last.{Last}
-use Rattle.pop_journal.specs.declared.last.Last.TheVariants.{Verdict}
+use Rattle.journal_text.specs.Journal.{text_of}
+use Rattle.journal_text.specs.declared.last.Last.{Last}
+use Rattle.journal_text.specs.declared.last.Last.TheVariants.{Verdict}
 use Rattle.pop_demo.specs.DemoCase.{demo_tree, demo_counts, demo_spec}
 use Rattle.tool_texts.specs.declared.output.Output.{Output}
 use Rattle.tool_texts.specs.declared.output.Ending.{Ending}

@@ -1,8 +1,8 @@
 use Rattle.std.proofs.Common.{◌++◌, ap, ◌∙◌}
 use Rattle.pop_net.specs.Lanes.{crowd_of}
-use Rattle.pop_journal.specs.Journal.{journal_text}
-use Rattle.pop_journal.specs.declared.last.Last.{Last}
-use Rattle.pop_journal.proofs.Texts.{journal_ended}
+use Rattle.journal_text.specs.Journal.{journal_text}
+use Rattle.journal_text.specs.declared.last.Last.{Last}
+use Rattle.journal_text.proofs.Texts.{journal_ended}
 use Rattle.tool_texts.specs.declared.output.Ending.{Ending}
 use Rattle.tool_texts.specs.declared.output.Output.{Output}
 use Rattle.tool_runs.specs.Run.{open_pair}

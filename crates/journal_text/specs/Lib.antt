@@ -1,0 +1,4 @@
+pub mod Journal
+pub mod Ending
+pub mod Reasons
+pub mod Difference
