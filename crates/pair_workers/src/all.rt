@@ -1,37 +1,22 @@
 //! Runs by all workers.
 
-ghost use Rattle.std.specs.Prelude.{◌≡◌, ◌≤◌, IfOk};
+ghost use Rattle.std.specs.Prelude.{◌≡◌, IfOk};
 ghost use Rattle.pop_net.specs.Lanes.{crowd_of};
-ghost use Rattle.pair_workers.specs.OneRun.{IsOnlyRun};
-ghost use Rattle.pair_workers.specs.Ends.{AreFirstPickers, CanMakeRun, IsRunFrom};
+ghost use Rattle.pair_runs.specs.OneRun.{IsOnlyRun};
+ghost use Rattle.pair_runs.specs.Ends.{CanMakeRun, IsRunFrom};
 
-use crate::alone::{ROUND_TURNS, RunEnd};
-use crate::context::RunContext;
-use crate::ends::{end_of, goes_on};
-use crate::picker::Picker;
 use crate::round::next_round;
 use crate::round_start::RoundStart;
 use agent_field::Layout;
+use pair_runs::{ROUND_TURNS, RunContext, RunEnd, end_of, first_pickers, goes_on};
 use pop_crowd::Crowd;
 use pop_io::{Gate, List, NoMemory};
 use pop_net::Net;
-use run_spec::{RunSpec, SEED_LIMIT};
+use run_spec::RunSpec;
 use std::alloc::Global;
 use std::sync::Wait;
 use std::thread::Threads;
 use terminal_test::PairTable;
-
-/// The pickers of all workers, none of which has made a pick.
-pub fn first_pickers(alloc: Global, spec: &RunSpec) -> Result<Vec<Picker>, NoMemory>
-    requires { spec.now.seed ≤ SEED_LIMIT }
-    ensures { IfOk result (λ pickers. AreFirstPickers spec.now pickers.items) }
-{
-    let mut pickers = Vec::new(alloc);
-    'workers: for worker in 0..spec.workers {
-        pickers.push(Picker::new(spec.seed, worker))?;
-    }
-    Ok(pickers)
-}
 
 /// A run by all workers, round by round: one worker meets on the plain crowd, and more meet on fields.
 /// Before each round the crowd is tested for being terminal.

@@ -1,6 +1,6 @@
 //! What a round leaves.
 
-use crate::picker::Picker;
+use pair_runs::Picker;
 use pop_crowd::{Crowd, Meeting};
 
 /// The meetings of a round, the crowd after them, and the workers' pickers.

@@ -1,6 +1,6 @@
 //! What a round begins with.
 
-use crate::picker::Picker;
+use pair_runs::Picker;
 use pop_crowd::Crowd;
 
 /// A crowd, the workers' pickers, and how many turns each worker makes.

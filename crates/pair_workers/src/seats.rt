@@ -6,11 +6,10 @@ ghost use Rattle.agent_field.specs.Seats.{log_of};
 ghost use Rattle.agent_field.specs.Layouts.{Serves};
 ghost use Rattle.pair_workers.specs.Work.{IsFirstSeat, HasSeated, HasDealt, HasAll, HasOpened};
 
-use crate::alone::ROUND_TURNS;
-use crate::picker::Picker;
 use crate::round_start::RoundStart;
 use crate::work::Worker;
 use agent_field::{Field, FieldSeat, Layout, SEAT_LIMIT};
+use pair_runs::{Picker, ROUND_TURNS};
 use pop_io::{NoMemory, SHARD_LIMIT};
 use pop_net::Net;
 use std::alloc::Global;

@@ -8,7 +8,7 @@ use Rattle.pop_net.specs.NetModel.{NetModel, CrowdModel}
 use Rattle.pop_crowd.specs.declared.crowd.Meeting.{Meeting}
 use Rattle.pop_crowd.specs.Replay.{replay}
 use Rattle.run_spec.specs.declared.spec.RunSpec.{RunSpec}
-use Rattle.pair_workers.specs.Run.{joined}
+use Rattle.pair_runs.specs.Run.{joined}
 use Rattle.journal_text.specs.Journal.{meeting_line}
 use Rattle.journal_text.specs.Ending.{is_terminal, least_pair, common_output, ending_with, ending_until, last_is_undecided}
 use Rattle.journal_text.specs.declared.last.Outcome.{Outcome}

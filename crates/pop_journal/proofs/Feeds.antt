@@ -9,7 +9,7 @@ use Rattle.run_spec.specs.declared.kind.RunKind.{RunKind}
 use Rattle.run_spec.specs.declared.kind.RunKind.TheVariants.{Whole, Watched}
 use Rattle.run_spec.specs.Kinds.{kind_word}
 use Rattle.run_spec.specs.RunLimits.{IsWithinLimits}
-use Rattle.pair_workers.specs.Run.{joined}
+use Rattle.pair_runs.specs.Run.{joined}
 use Rattle.journal_text.specs.Journal.{run_line, round_line, meeting_line, round_lines, run_lines, text_of}
 use Rattle.pop_journal.proofs.Spelled.{IsSmall, mark_of}
 use Rattle.pop_journal.proofs.Holds.{all_parts}

@@ -12,9 +12,9 @@ use Rattle.pop_crowd.specs.Replay.{IsMeeting}
 use Rattle.run_spec.specs.declared.spec.RunSpec.{RunSpec}
 use Rattle.run_spec.specs.declared.kind.RunKind.{RunKind}
 use Rattle.run_spec.specs.declared.kind.RunKind.TheVariants.{Whole, Watched}
-use Rattle.pair_workers.specs.Run.{meetings_of, turns_in, joined, IsRound}
-use Rattle.pair_workers.specs.WatchedRun.{IsWatchedRound}
-use Rattle.pair_workers.proofs.WholeWatched.{watched_round}
+use Rattle.pair_runs.specs.Run.{meetings_of, turns_in, joined, IsRound}
+use Rattle.pair_runs.specs.WatchedRun.{IsWatchedRound}
+use Rattle.pair_runs.proofs.WholeWatched.{watched_round}
 use Rattle.journal_text.specs.declared.fault.JournalWhy.{JournalWhy}
 use Rattle.journal_text.specs.declared.fault.JournalWhy.TheVariants.{Form, Worker, Agents, Round}
 use Rattle.journal_text.specs.Journal.{round_line, meeting_line, round_lines}

@@ -11,9 +11,9 @@ use Rattle.pop_crowd.specs.declared.limits.TheConstants.{AGENT_LEAST, AGENT_LIMI
 use Rattle.pop_crowd.specs.Replay.{replay}
 use Rattle.pop_crowd.proofs.Words.{crowd_tuples}
 use Rattle.run_spec.specs.RunLimits.{IsWithinLimits}
-use Rattle.pair_workers.specs.Run.{joined}
-use Rattle.pair_workers.specs.WatchedRun.{IsWatchedRunUntil}
-use Rattle.pair_workers.specs.SameLanes.{HaveSameLanes}
+use Rattle.pair_runs.specs.Run.{joined}
+use Rattle.pair_runs.specs.WatchedRun.{IsWatchedRunUntil}
+use Rattle.pair_runs.specs.SameLanes.{HaveSameLanes}
 use Rattle.pop_io.specs.declared.failure.Failure.{Failure}
 use Rattle.pop_io.specs.declared.failure.Failure.TheVariants.{Fault, NoMemory}
 use Rattle.journal_text.specs.declared.fault.VerifyFault.{VerifyFault}

@@ -15,8 +15,8 @@ use Rattle.run_spec.specs.declared.spec.RunSpec.{RunSpec}
 use Rattle.run_spec.specs.declared.kind.RunKind.{RunKind}
 use Rattle.run_spec.specs.Kinds.{most_workers_of}
 use Rattle.run_spec.specs.RunLimits.{IsWithinLimits}
-use Rattle.pair_workers.specs.Run.{joined}
-use Rattle.pair_workers.specs.WatchedRun.{IsWatchedRound, IsWatchedRunUntil, IsRunOf, IsRunOfUntil}
+use Rattle.pair_runs.specs.Run.{joined}
+use Rattle.pair_runs.specs.WatchedRun.{IsWatchedRound, IsWatchedRunUntil, IsRunOf, IsRunOfUntil}
 use Rattle.pop_journal.specs.declared.journal.Journal.{Journal}
 use Rattle.journal_text.specs.Journal.{run_line, round_lines, run_lines, last_line, text_of, journal_text}
 use Rattle.pop_journal.specs.Rounds.{AreRounds, AreWatchedRounds, AreRoundsOf}

@@ -6,7 +6,7 @@ use Rattle.pop_net.specs.Lanes.{crowd_of, AreValid}
 use Rattle.run_spec.specs.declared.kind.RunKind.{RunKind}
 use Rattle.run_spec.specs.Kinds.{most_workers_of}
 use Rattle.run_spec.specs.RunLimits.{IsWithinLimits}
-use Rattle.pair_workers.specs.Run.{joined}
+use Rattle.pair_runs.specs.Run.{joined}
 use Rattle.journal_text.specs.declared.fault.JournalFault.{JournalFault}
 use Rattle.journal_text.specs.declared.fault.VerifyFault.{VerifyFault}
 use Rattle.pop_io.specs.declared.failure.Failure.{Failure}

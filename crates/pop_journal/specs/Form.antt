@@ -12,7 +12,7 @@ use Rattle.run_spec.specs.declared.kind.RunKind.TheVariants.{Whole, Watched}
 use Rattle.run_spec.specs.Kinds.{kind_word, most_workers_of}
 use Rattle.run_spec.specs.declared.spec.TheConstants.{TURN_LIMIT, MEETING_LIMIT, SEED_LIMIT}
 use Rattle.run_spec.specs.declared.spec.RunSpec.{RunSpec}
-use Rattle.pair_workers.specs.Run.{made_by, turns_in}
+use Rattle.pair_runs.specs.Run.{made_by, turns_in}
 use Rattle.pop_journal.specs.declared.form.MeetingLine.{MeetingLine}
 use Rattle.journal_text.specs.Journal.{round_line}
 use Rattle.journal_text.specs.declared.fault.JournalWhy.{JournalWhy}

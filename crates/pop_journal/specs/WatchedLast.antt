@@ -1,7 +1,7 @@
 -- The last line of a watched run's journal.
 use Rattle.std.specs.Prelude.{Bool}
-use Rattle.pair_workers.specs.declared.alone.End.{End}
-use Rattle.pair_workers.specs.declared.alone.End.TheVariants.{Terminal, Open}
+use Rattle.pair_runs.specs.declared.alone.End.{End}
+use Rattle.pair_runs.specs.declared.alone.End.TheVariants.{Terminal, Open}
 use Rattle.journal_text.specs.declared.last.Last.{Last}
 use Rattle.journal_text.specs.declared.last.Last.TheVariants.{Verdict, Undecided}
 

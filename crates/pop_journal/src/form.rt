@@ -3,7 +3,7 @@
 ghost use Rattle.std.specs.Prelude.{◌≡◌, ◌+◌, ◌<◌, ◌≤◌, ℕ, IfOk, IfSome, MatchOption, None, List as Items, [], length};
 ghost use Rattle.std.specs.Prelude.{Some, slice_index_or};
 ghost use Rattle.pop_lines.specs.Lines.{lines_of};
-ghost use Rattle.pair_workers.specs.Run.{meetings_of, turns_in};
+ghost use Rattle.pair_runs.specs.Run.{meetings_of, turns_in};
 ghost use Rattle.pop_journal.specs.ReadLines.{first_ends};
 ghost use Rattle.pop_journal.specs.Form.{Tells, told_in, three_numbers, meeting_told, onward, number_named};
 ghost use Rattle.pop_journal.specs.Form.{at_the_end, number_first, turns_named, spec_named, spec_in};

@@ -1,7 +1,7 @@
 //! How long a journal may be.
 
 use crate::journal::LINE_LIMIT;
-use pair_workers::ROUND_TURNS;
+use pair_runs::ROUND_TURNS;
 use pop_io::WORKER_LIMIT;
 use run_spec::TURN_LIMIT;
 

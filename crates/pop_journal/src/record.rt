@@ -5,7 +5,7 @@ ghost use Rattle.pop_net.specs.Lanes.{crowd_of, AreValid};
 ghost use Rattle.journal_text.specs.Journal.{round_lines, text_of, journal_text};
 
 use journal_text::{Last, Page, push_end, push_rounds, push_run_line};
-use pair_workers::{ROUND_TURNS, RunEnd};
+use pair_runs::{ROUND_TURNS, RunEnd};
 use pop_io::{List, NoMemory};
 use pop_net::Net;
 use run_spec::{RunKind, RunSpec};

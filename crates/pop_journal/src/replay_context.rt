@@ -1,7 +1,7 @@
 //! What the steps of a replay have in common, and where its `end` stands.
 
 ghost use Rattle.terminal_test.specs.TableNet.{table_net};
-ghost use Rattle.pair_workers.specs.SameLanes.{HaveSameLanes};
+ghost use Rattle.pair_runs.specs.SameLanes.{HaveSameLanes};
 
 use crate::journal::Journal;
 use journal_text::Outcome;

@@ -4,7 +4,7 @@ ghost use Rattle.std.specs.Prelude.{◌≡◌, ◌≢◌, true, false, ◌∷◌
 ghost use Rattle.pop_net.specs.NetModel.{CrowdModel};
 ghost use Rattle.pop_net.specs.Lanes.{crowd_of, AreValid};
 ghost use Rattle.pop_crowd.specs.Replay.{AreMeetings};
-ghost use Rattle.pair_workers.specs.CrowdSize.{IsCrowdSize};
+ghost use Rattle.pair_runs.specs.CrowdSize.{IsCrowdSize};
 ghost use Rattle.pop_lines.specs.Lines.{lines_of, ended};
 ghost use Rattle.pop_crowd.specs.Tally.{crowd_lines};
 ghost use Rattle.journal_text.specs.Journal.{meeting_line, round_line, last_line};
@@ -18,7 +18,7 @@ ghost use Rattle.terminal_test.specs.TableNet.{table_net};
 use crate::limits::ROUND_LIMIT;
 use crate::replay_context::{EndPlace, ReplayContext};
 use journal_text::{Last, Outcome, VerifyFault, push_last_line, push_meeting_numbers};
-use pair_workers::{Picker, ROUND_TURNS, meet_next};
+use pair_runs::{Picker, ROUND_TURNS, meet_next};
 use pop_crowd::{Crowd, Meeting};
 use pop_io::{Failure, List, NoMemory, WORKER_LIMIT};
 use pop_lines::{next_line, push_number};
@@ -75,7 +75,7 @@ impl Replayer {
     ghost use Rattle.run_spec.specs.declared.spec.RunSpec.{RunSpec};
     ghost use Rattle.journal_text.specs.Ending.{ending_until};
     ghost use Rattle.journal_text.specs.declared.last.Outcome.{Outcome};
-    ghost use Rattle.pair_workers.specs.Run.{turns_in};
+    ghost use Rattle.pair_runs.specs.Run.{turns_in};
     ghost use Rattle.journal_text.specs.Journal.{round_line};
     ghost use Rattle.std.specs.Prelude.{codes};
     ghost use Rattle.pop_lines.specs.Lines.{lines_of};

@@ -13,7 +13,7 @@ use crate::read::read_journal;
 use crate::record::write_journal;
 use crate::verdict::verify;
 use journal_text::{JournalFault, Last, VerifyFault};
-use pair_workers::{End, RunEnd};
+use pair_runs::{End, RunEnd};
 use pop_crowd::Crowd;
 use pop_io::{Failure, List, NoMemory};
 use pop_net::Net;

@@ -16,9 +16,9 @@ use Rattle.pop_crowd.specs.declared.crowd.Meeting.{Meeting}
 use Rattle.pop_crowd.specs.declared.limits.TheConstants.{AGENT_LEAST, AGENT_LIMIT}
 use Rattle.run_spec.specs.declared.kind.RunKind.{RunKind}
 use Rattle.run_spec.specs.declared.spec.RunSpec.{RunSpec}
-use Rattle.pair_workers.specs.Run.{joined}
-use Rattle.pair_workers.specs.SameLanes.{HaveSameLanes}
-use Rattle.pair_workers.specs.WatchedRun.{IsRunOfUntil}
+use Rattle.pair_runs.specs.Run.{joined}
+use Rattle.pair_runs.specs.SameLanes.{HaveSameLanes}
+use Rattle.pair_runs.specs.WatchedRun.{IsRunOfUntil}
 use Rattle.journal_text.specs.declared.last.Last.{Last}
 use Rattle.journal_text.specs.Ending.{common_output, quiet_ending, rest_ending, ending_until}
 use Rattle.journal_text.proofs.Looks.{common_some}

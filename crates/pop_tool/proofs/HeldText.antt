@@ -10,8 +10,8 @@ use Rattle.run_spec.specs.declared.spec.RunSpec.{RunSpec}
 use Rattle.run_spec.specs.declared.spec.TheConstants.{MEETING_LIMIT}
 use Rattle.run_spec.specs.Kinds.{most_workers_of}
 use Rattle.run_spec.specs.RunLimits.{IsWithinLimits}
-use Rattle.pair_workers.specs.Run.{joined}
-use Rattle.pair_workers.specs.WatchedRun.{IsRunOfUntil}
+use Rattle.pair_runs.specs.Run.{joined}
+use Rattle.pair_runs.specs.WatchedRun.{IsRunOfUntil}
 use Rattle.journal_text.specs.declared.last.Last.{Last}
 use Rattle.journal_text.specs.Journal.{run_line, round_lines, journal_text}
 use Rattle.journal_text.specs.Ending.{ending_until}

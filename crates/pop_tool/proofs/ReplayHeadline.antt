@@ -14,7 +14,7 @@ use Rattle.run_spec.specs.declared.kind.RunKind.TheVariants.{Whole, Watched}
 use Rattle.pop_words.specs.Words.{replay_command}
 use Rattle.run_spec.specs.declared.spec.RunSpec.{RunSpec}
 use Rattle.run_spec.specs.RunLimits.{IsWithinLimits}
-use Rattle.pair_workers.specs.Run.{joined}
+use Rattle.pair_runs.specs.Run.{joined}
 use Rattle.pop_journal.specs.declared.journal.Journal.{Journal}
 use Rattle.pop_journal.specs.Rounds.{AreRoundsOf}
 use Rattle.pop_journal.specs.Form.{Parts, Out, journal_in}

@@ -16,7 +16,7 @@ use Rattle.run_spec.specs.RunLimits.{IsWithinLimits}
 use Rattle.run_spec.specs.Kinds.{most_workers_of}
 use Rattle.pop_words.specs.Words.{meaning_of, run_command, replay_command}
 use Rattle.pop_words.proofs.Limits.{run_bounded}
-use Rattle.pair_workers.specs.Run.{joined}
+use Rattle.pair_runs.specs.Run.{joined}
 use Rattle.pop_journal.specs.declared.journal.Journal.{Journal}
 use Rattle.journal_text.specs.declared.last.Last.{Last}
 use Rattle.journal_text.specs.Journal.{journal_text}

@@ -20,8 +20,8 @@ use Rattle.pop_words.specs.declared.command.Command.TheVariants.{ReplayWatched, 
 use Rattle.pop_words.specs.declared.command.Command.TheVariants.{Show, Succinct}
 use Rattle.pop_words.specs.Words.{meaning_of}
 use Rattle.pop_words.specs.Vars.{vars_of}
-use Rattle.pair_workers.specs.Run.{joined}
-use Rattle.pair_workers.specs.WatchedRun.{IsRunOf}
+use Rattle.pair_runs.specs.Run.{joined}
+use Rattle.pair_runs.specs.WatchedRun.{IsRunOf}
 use Rattle.journal_text.specs.Journal.{journal_text}
 use Rattle.journal_text.specs.declared.last.Last.{Last}
 use Rattle.journal_text.specs.declared.last.Last.TheVariants.{Verdict}

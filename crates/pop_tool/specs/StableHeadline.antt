@@ -11,8 +11,8 @@ use Rattle.pop_net.specs.Reachable.{Reachable}
 use Rattle.pop_crowd.specs.declared.crowd.Meeting.{Meeting}
 use Rattle.run_spec.specs.declared.kind.RunKind.{RunKind}
 use Rattle.run_spec.specs.declared.spec.RunSpec.{RunSpec}
-use Rattle.pair_workers.specs.Run.{joined}
-use Rattle.pair_workers.specs.WatchedRun.{IsRunOfUntil}
+use Rattle.pair_runs.specs.Run.{joined}
+use Rattle.pair_runs.specs.WatchedRun.{IsRunOfUntil}
 use Rattle.journal_text.specs.Journal.{journal_text}
 use Rattle.journal_text.specs.declared.last.Last.{Last}
 use Rattle.journal_text.specs.declared.last.Last.TheVariants.{Settled}

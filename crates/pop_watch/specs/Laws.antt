@@ -3,8 +3,8 @@ use Rattle.std.specs.Prelude.{List}
 use Rattle.pop_net.specs.NetModel.{NetModel, CrowdModel}
 use Rattle.pop_crowd.specs.declared.crowd.Meeting.{Meeting}
 use Rattle.run_spec.specs.declared.spec.RunSpec.{RunSpec}
-use Rattle.pair_workers.specs.Run.{IsRunUntil}
-use Rattle.pair_workers.specs.WatchedRun.{IsWatchedRunUntil}
+use Rattle.pair_runs.specs.Run.{IsRunUntil}
+use Rattle.pair_runs.specs.WatchedRun.{IsWatchedRunUntil}
 
 abbrev pub WholeRunsAreWatched : Type 0
 WholeRunsAreWatched =

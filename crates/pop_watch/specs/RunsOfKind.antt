@@ -6,12 +6,12 @@ use Rattle.pop_crowd.specs.declared.crowd.Meeting.{Meeting}
 use Rattle.run_spec.specs.declared.kind.RunKind.{RunKind}
 use Rattle.run_spec.specs.declared.kind.RunKind.TheVariants.{Whole, Watched}
 use Rattle.run_spec.specs.declared.spec.RunSpec.{RunSpec}
-use Rattle.pair_workers.specs.declared.alone.End.{End}
-use Rattle.pair_workers.specs.declared.alone.RunEnd.{RunEnd}
+use Rattle.pair_runs.specs.declared.alone.End.{End}
+use Rattle.pair_runs.specs.declared.alone.RunEnd.{RunEnd}
 use Rattle.pair_workers.specs.declared.round_end.RoundEnd.{RoundEnd}
-use Rattle.pair_workers.specs.Ends.{IsRunFromUntil}
-use Rattle.pair_workers.specs.TakenRun.{Step, TakesAll}
-use Rattle.pair_workers.specs.Turns.{IsWholeRound}
+use Rattle.pair_runs.specs.Ends.{IsRunFromUntil}
+use Rattle.pair_runs.specs.TakenRun.{Step, TakesAll}
+use Rattle.pair_workers.specs.WholeRounds.{IsWholeRound}
 use Rattle.pop_watch.specs.Playing.{IsWatchedRoundFrom}
 use Rattle.pop_watch.specs.WatchedEnds.{IsWatchedRunFromUntil}
 

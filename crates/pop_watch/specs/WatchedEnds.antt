@@ -8,10 +8,10 @@ use Rattle.pop_net.specs.declared.net.Word.{Word}
 use Rattle.pop_crowd.specs.declared.crowd.Meeting.{Meeting}
 use Rattle.terminal_test.specs.Pairs.{IsLeastPair}
 use Rattle.run_spec.specs.declared.spec.RunSpec.{RunSpec}
-use Rattle.pair_workers.specs.declared.alone.End.{End}
-use Rattle.pair_workers.specs.declared.alone.RunEnd.{RunEnd}
-use Rattle.pair_workers.specs.declared.alone.End.TheVariants.{Terminal, Open}
-use Rattle.pair_workers.specs.WatchedRun.{IsWatchedRunUntil, AreSpent}
+use Rattle.pair_runs.specs.declared.alone.End.{End}
+use Rattle.pair_runs.specs.declared.alone.RunEnd.{RunEnd}
+use Rattle.pair_runs.specs.declared.alone.End.TheVariants.{Terminal, Open}
+use Rattle.pair_runs.specs.WatchedRun.{IsWatchedRunUntil, AreSpent}
 
 -- why a run ended in this crowd after these rounds: the crowd is terminal; or the turns are spent and this pair of
 -- agents is the least that can change

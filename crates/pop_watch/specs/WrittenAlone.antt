@@ -5,8 +5,8 @@ use Rattle.pop_net.specs.declared.net.Word.{Word}
 use Rattle.pop_crowd.specs.declared.crowd.Meeting.{Meeting}
 use Rattle.run_spec.specs.declared.kind.RunKind.TheVariants.{Whole}
 use Rattle.run_spec.specs.declared.spec.RunSpec.{RunSpec}
-use Rattle.pair_workers.specs.declared.alone.End.{End}
-use Rattle.pair_workers.specs.OneRun.{IsOnlyRunFromUntil}
+use Rattle.pair_runs.specs.declared.alone.End.{End}
+use Rattle.pair_runs.specs.OneRun.{IsOnlyRunFromUntil}
 use Rattle.journal_text.specs.Journal.{run_lines, text_of}
 
 -- a run from a crowd to this end until it is terminal in rest, which is the only one, and its lines after earlier text

@@ -5,7 +5,7 @@ use Rattle.pop_net.specs.declared.net.Word.{Word}
 use Rattle.pop_crowd.specs.declared.crowd.Meeting.{Meeting}
 use Rattle.run_spec.specs.declared.kind.RunKind.{RunKind}
 use Rattle.run_spec.specs.declared.spec.RunSpec.{RunSpec}
-use Rattle.pair_workers.specs.declared.alone.End.{End}
+use Rattle.pair_runs.specs.declared.alone.End.{End}
 use Rattle.journal_text.specs.Journal.{run_lines, text_of}
 pub use Rattle.pop_watch.specs.RunsOfKind.{IsRoundOf, IsRunOfKind, IsRunOfKindUntil}
 

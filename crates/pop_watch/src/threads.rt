@@ -5,7 +5,7 @@ ghost use Rattle.agent_field.specs.Layouts.{Serves};
 ghost use Rattle.pop_net.specs.Lanes.{AreValid};
 ghost use Rattle.terminal_test.specs.TableNet.{table_net};
 ghost use Rattle.run_spec.specs.Kinds.{most_workers_of};
-ghost use Rattle.pair_workers.specs.Turns.{CanMakeRound};
+ghost use Rattle.pair_workers.specs.WholeRounds.{CanMakeRound};
 ghost use Rattle.pop_watch.specs.RunsOfKind.{IsRoundOf, IsTakenRunOf};
 
 use crate::context::WatchContext;

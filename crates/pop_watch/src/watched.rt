@@ -1,7 +1,7 @@
 //! Watched runs, whose rounds are kept.
 
 ghost use Rattle.std.specs.Prelude.{◌≤◌, IfOk};
-ghost use Rattle.pair_workers.specs.Ends.{CanMakeRun};
+ghost use Rattle.pair_runs.specs.Ends.{CanMakeRun};
 ghost use Rattle.pop_watch.specs.WatchedEnds.{IsWatchedRunFrom};
 
 use crate::threads::run_on_threads;

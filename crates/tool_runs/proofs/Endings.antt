@@ -4,7 +4,7 @@ use Rattle.std.specs.Prelude.{◌≢◌, ◌+◌, length}
 use Rattle.run_spec.specs.declared.kind.RunKind.{RunKind}
 use Rattle.run_spec.specs.declared.spec.RunSpec.{RunSpec}
 use Rattle.pop_net.specs.InputCrowd.{input_crowd}
-use Rattle.pair_workers.specs.Run.{joined}
+use Rattle.pair_runs.specs.Run.{joined}
 use Rattle.pop_journal.specs.Form.{journal_in}
 use Rattle.journal_text.specs.Difference.{Difference}
 use Rattle.pop_journal.specs.Expected.{first_difference, journal_compared_until}

@@ -2,11 +2,11 @@
 use Rattle.std.proofs.Common.{ℕ, List}
 use Rattle.pop_net.specs.NetModel.{NetModel, CrowdModel}
 use Rattle.run_spec.specs.declared.spec.RunSpec.{RunSpec}
-use Rattle.pair_workers.specs.Ends.{EndsBy}
+use Rattle.pair_runs.specs.Ends.{EndsBy}
 use Rattle.pop_watch.specs.WatchedEnds.{WatchedEndsBy}
 use Rattle.pop_crowd.specs.declared.crowd.Meeting.{Meeting}
-use Rattle.pair_workers.specs.declared.alone.End.{End}
-use Rattle.pair_workers.specs.declared.alone.End.TheVariants.{Terminal, Open}
+use Rattle.pair_runs.specs.declared.alone.End.{End}
+use Rattle.pair_runs.specs.declared.alone.End.TheVariants.{Terminal, Open}
 use Rattle.tool_bundles.specs.LastPair.{IsLast}
 use Rattle.tool_runs.specs.Run.{open_pair}
 

@@ -7,11 +7,11 @@ use Rattle.pop_net.specs.Lanes.{crowd_of}
 use Rattle.run_spec.specs.declared.kind.RunKind.{RunKind}
 use Rattle.run_spec.specs.declared.kind.RunKind.TheVariants.{Whole, Watched}
 use Rattle.run_spec.specs.declared.spec.RunSpec.{RunSpec}
-use Rattle.pair_workers.specs.Run.{IsRunUntil}
-use Rattle.pair_workers.specs.WatchedRun.{IsWatchedRunUntil}
-use Rattle.pair_workers.specs.Ends.{IsRunFromUntil}
-use Rattle.pair_workers.specs.declared.alone.End.{End}
-use Rattle.pair_workers.specs.declared.alone.RunEnd.{RunEnd}
+use Rattle.pair_runs.specs.Run.{IsRunUntil}
+use Rattle.pair_runs.specs.WatchedRun.{IsWatchedRunUntil}
+use Rattle.pair_runs.specs.Ends.{IsRunFromUntil}
+use Rattle.pair_runs.specs.declared.alone.End.{End}
+use Rattle.pair_runs.specs.declared.alone.RunEnd.{RunEnd}
 use Rattle.journal_text.specs.Journal.{run_lines, text_of}
 use Rattle.pop_watch.specs.WrittenAlone.{IsWrittenRunUntil}
 use Rattle.pop_watch.specs.WatchedEnds.{IsWatchedRunFromUntil}

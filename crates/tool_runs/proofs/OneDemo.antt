@@ -3,7 +3,7 @@ use Rattle.std.proofs.Common.{◌≡◌, ℕ, List, Option, Result, Ok, refl, sy
 use Rattle.pop_net.specs.NetModel.{CrowdModel}
 use Rattle.pop_crowd.specs.declared.crowd.Meeting.{Meeting}
 use Rattle.run_spec.specs.declared.kind.RunKind.TheVariants.{Whole}
-use Rattle.pair_workers.proofs.OnlyRun.{only_run}
+use Rattle.pair_runs.proofs.OnlyRun.{only_run}
 use Rattle.pres_ast.specs.PredicateValue.{predicate_value}
 use Rattle.journal_text.specs.Journal.{text_of}
 use Rattle.journal_text.specs.declared.last.Last.TheVariants.{Verdict}

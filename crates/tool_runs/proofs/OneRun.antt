@@ -9,7 +9,7 @@ use Rattle.pop_crowd.specs.Crowds.{input_size}
 use Rattle.pop_crowd.specs.declared.limits.TheConstants.{AGENT_LEAST}
 use Rattle.run_spec.specs.declared.kind.RunKind.TheVariants.{Whole}
 use Rattle.run_spec.specs.declared.spec.RunSpec.{RunSpec}
-use Rattle.pair_workers.proofs.OnlyRun.{only_run}
+use Rattle.pair_runs.proofs.OnlyRun.{only_run}
 use Rattle.journal_text.specs.Journal.{journal_text}
 use Rattle.goal_checker.specs.declared.fault.StableRejected.{StableRejected}
 use Rattle.goal_settle.specs.Chosen.{proof_at}

@@ -11,7 +11,7 @@ use Rattle.goal_json.specs.declared.bundle.StableBundle.{StableBundle}
 use Rattle.goal_settle.specs.Chosen.{proof_at}
 use Rattle.goal_settle.specs.Resting.{resting_net}
 use Rattle.goal_settle.proofs.HushedLeaves.{states_listed}
-use Rattle.pair_workers.specs.SameLanes.{HaveSameLanes}
+use Rattle.pair_runs.specs.SameLanes.{HaveSameLanes}
 use Rattle.pop_checker.specs.CheckedModel.{CheckedModel}
 use Rattle.tool_bundles.specs.declared.bundle.AnyBundle.{AnyBundle}
 use Rattle.tool_bundles.specs.declared.bundle.AnyBundle.TheVariants.{Plain, Stable}

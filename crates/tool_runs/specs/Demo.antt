@@ -9,8 +9,8 @@ use Rattle.pop_net.specs.InputCrowd.{IsInput, input_crowd}
 use Rattle.pop_net.specs.Lanes.{crowd_of}
 use Rattle.pop_crowd.specs.declared.crowd.Meeting.{Meeting}
 use Rattle.pop_words.specs.declared.command.TheConstants.{DEMO_LIMIT}
-use Rattle.pair_workers.specs.Run.{IsRun, joined}
-use Rattle.pair_workers.specs.declared.alone.RunEnd.{RunEnd}
+use Rattle.pair_runs.specs.Run.{IsRun, joined}
+use Rattle.pair_runs.specs.declared.alone.RunEnd.{RunEnd}
 use Rattle.journal_text.specs.Journal.{last_line, text_of}
 use Rattle.journal_text.specs.declared.last.Last.{Last}
 use Rattle.journal_text.specs.declared.last.Last.TheVariants.{Verdict}

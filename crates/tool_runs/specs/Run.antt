@@ -6,9 +6,9 @@ use Rattle.pop_net.specs.InputCrowd.{IsInput, input_crowd}
 use Rattle.pop_crowd.specs.declared.crowd.Meeting.{Meeting}
 use Rattle.run_spec.specs.declared.kind.RunKind.{RunKind}
 use Rattle.run_spec.specs.declared.spec.RunSpec.{RunSpec}
-use Rattle.pair_workers.specs.WatchedRun.{IsRunOfUntil}
-use Rattle.pair_workers.specs.declared.alone.End.{End}
-use Rattle.pair_workers.specs.declared.alone.End.TheVariants.{Terminal, Open}
+use Rattle.pair_runs.specs.WatchedRun.{IsRunOfUntil}
+use Rattle.pair_runs.specs.declared.alone.End.{End}
+use Rattle.pair_runs.specs.declared.alone.End.TheVariants.{Terminal, Open}
 use Rattle.journal_text.specs.Journal.{journal_text}
 use Rattle.journal_text.specs.declared.last.Last.{Last}
 use Rattle.journal_text.specs.declared.last.Last.TheVariants as last

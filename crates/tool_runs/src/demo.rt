@@ -3,7 +3,7 @@
 ghost use Rattle.std.specs.Prelude.{◌≡◌, ◌++◌, ◌<◌, ◌≤◌, ◌^◌, count_by, decimal, length, None, IfOk, OnOk};
 ghost use Rattle.pop_lines.specs.Lines.{ended};
 ghost use Rattle.pop_words.specs.declared.command.TheConstants.{DEMO_LIMIT};
-ghost use Rattle.pair_workers.specs.Run.{joined};
+ghost use Rattle.pair_runs.specs.Run.{joined};
 ghost use Rattle.journal_text.specs.Journal.{text_of};
 ghost use Rattle.pop_demo.specs.DemoCase.{names_of_demo};
 ghost use Rattle.comp_net.specs.BuiltNet.{built_net};

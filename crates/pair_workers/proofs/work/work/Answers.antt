@@ -1,7 +1,7 @@
 use Rattle.std.proofs.Common.{◌∙◌, arith}
 use Rattle.agent_field.specs.Seats.{log_of}
 use Rattle.pair_workers.specs.Work.{agents_of_field}
-use Rattle.pair_workers.proofs.Turns.{turn_more}
+use Rattle.pair_workers.proofs.LoggedTurns.{turn_more}
 use Rattle.pair_workers.proofs.work.work.Goals as goal
 
 pub turns-preserved : goal.turns-preserved

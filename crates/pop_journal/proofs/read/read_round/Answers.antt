@@ -2,7 +2,7 @@ use Rattle.std.proofs.Common.{◌≡◌, ℕ, ◌+◌, ◌*◌, ◌<◌, ◌∷�
 use Rattle.std.proofs.lemmas.List.{length-set}
 use Rattle.pop_lines.specs.Lines.{lines_of}
 use Rattle.pop_crowd.specs.declared.crowd.Meeting.{Meeting}
-use Rattle.pair_workers.specs.Run.{meetings_of}
+use Rattle.pair_runs.specs.Run.{meetings_of}
 use Rattle.pop_journal.specs.Form.{lines_read, settled, wanted}
 use Rattle.pop_journal.proofs.ReadBack.{read_told, read_stopped, counts_next}
 use Rattle.pop_journal.proofs.read.read_round.Goals as goal

@@ -6,7 +6,7 @@ use Rattle.pop_net.specs.Lanes.{crowd_of}
 use Rattle.pop_crowd.specs.declared.crowd.Meeting.{Meeting}
 use Rattle.pop_crowd.specs.Replay.{replay}
 use Rattle.terminal_test.specs.TableNet.{table_net}
-use Rattle.pair_workers.specs.Run.{joined}
+use Rattle.pair_runs.specs.Run.{joined}
 use Rattle.pop_journal.specs.Expected.{Compared, first_difference, lacking, rounds_compared, tail_compared, whole_tail_until, journal_compared_until}
 use Rattle.pop_journal.specs.Standing.{IsReplaying, lacking_behind}
 use Rattle.pop_journal.proofs.AlongTheJournal.{round_compared, round_passed, round_differs, carried}

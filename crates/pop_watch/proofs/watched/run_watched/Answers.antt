@@ -1,6 +1,6 @@
 use Rattle.std.proofs.Common.{◌≡◌, List, ◌++◌, subst, sym, ap, ◌∙◌}
 use Rattle.pop_crowd.specs.declared.crowd.Meeting.{Meeting}
-use Rattle.pair_workers.proofs.KeptAll.{all_kept}
+use Rattle.pair_runs.proofs.KeptAll.{all_kept}
 use Rattle.pop_watch.specs.WatchedEnds.{IsWatchedRunFrom}
 use Rattle.pop_watch.proofs.watched.run_watched.Goals as goal
 
