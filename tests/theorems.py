@@ -115,7 +115,16 @@ PROMISES = (
     ("valid input is answered over a source and a sink that never fail", "run_calm"),
 )
 LIBRARY_ALONE = {"run_all", "run_watched", "write_journal", "push_journal", "run_calm"}
-TOP_CRATES = ("tool_texts", "tool_bundles", "tool_proofs", "tool_runs", "tool_commands", "pop_tool", "pop_main")
+TOP_CRATES = (
+    "tool_texts",
+    "tool_bundles",
+    "tool_checks",
+    "tool_proofs",
+    "tool_runs",
+    "tool_commands",
+    "pop_tool",
+    "pop_main",
+)
 BELOW_CHECK = (
     ("pop_tool", "StableHeadline", "StableSays"),
     ("pop_tool", "StableHeadline", "SettledSays"),

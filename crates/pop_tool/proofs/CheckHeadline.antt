@@ -18,14 +18,14 @@ use Rattle.tool_texts.specs.Statuses.{status_of}
 use Rattle.tool_texts.specs.Steps.{After}
 use Rattle.tool_texts.specs.Lines.{just_one}
 use Rattle.tool_texts.specs.Refusals.{refusal_text, output_for}
-use Rattle.tool_texts.specs.Rejections.{rejected_text}
+use Rattle.tool_checks.specs.Rejections.{rejected_text}
 use Rattle.tool_texts.proofs.OneValue.{one_value}
 use Rattle.goal_json.proofs.WithoutGoals.{file_without}
 use Rattle.goal_checker.specs.declared.fault.StableRejected.{StableRejected}
 use Rattle.goal_json.specs.declared.bundle.StableBundle.{StableBundle}
 use Rattle.tool_bundles.specs.declared.bundle.AnyBundle.{AnyBundle}
 use Rattle.tool_bundles.specs.declared.bundle.AnyBundle.TheVariants.{Plain, Stable}
-use Rattle.tool_bundles.specs.Bundles.{IsJudged}
+use Rattle.tool_checks.specs.Judged.{IsJudged}
 use Rattle.tool_bundles.specs.StableBundles.{any_bundle_in, IsAnyBundleOf}
 use Rattle.tool_proofs.specs.Check.{certified_text, judgement, stable_judgement, OfBundle, OfAnyBundle, OfLine, CheckGives}
 use Rattle.tool_bundles.proofs.AnyBundles.{of_plain, plain_value}

@@ -27,7 +27,8 @@ use Rattle.goal_settle.specs.Chosen.{proof_at}
 use Rattle.goal_settle.proofs.HushedLeaves.{states_listed}
 use Rattle.tool_bundles.specs.declared.bundle.AnyBundle.{AnyBundle}
 use Rattle.tool_bundles.specs.declared.bundle.AnyBundle.TheVariants.{Plain, Stable}
-use Rattle.tool_bundles.specs.StableBundles.{IsAnyBegunBy, IsAnyJudged}
+use Rattle.tool_bundles.specs.StableBundles.{IsAnyBegunBy}
+use Rattle.tool_checks.specs.Judged.{IsAnyJudged}
 use Rattle.tool_runs.specs.Course.{Course, course_of}
 use Rattle.tool_bundles.proofs.Begun.{begun_two, begun_few}
 use Rattle.tool_bundles.proofs.InputSize.{length-input_crowd}

@@ -22,7 +22,8 @@ use Rattle.pop_journal.specs.Rounds.{AreRoundsOf}
 use Rattle.pop_journal.proofs.Written.{journal_form, written_is_held_until, cut_until}
 use Rattle.tool_bundles.specs.declared.bundle.AnyBundle.{AnyBundle}
 use Rattle.tool_bundles.specs.declared.bundle.AnyBundle.TheVariants.{Plain, Stable}
-use Rattle.tool_bundles.specs.StableBundles.{IsAnyBegunBy, IsAnyJudged}
+use Rattle.tool_bundles.specs.StableBundles.{IsAnyBegunBy}
+use Rattle.tool_checks.specs.Judged.{IsAnyJudged}
 use Rattle.tool_runs.specs.Course.{Course, course_of}
 use Rattle.tool_runs.specs.declared.replay.TheConstants.{JOURNAL_LINE}
 use Rattle.tool_runs.specs.Replay.{journal_read}

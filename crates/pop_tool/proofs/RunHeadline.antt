@@ -34,7 +34,8 @@ use Rattle.tool_texts.specs.Lines.{just_two}
 use Rattle.tool_texts.specs.Refusals.{output_for}
 use Rattle.tool_bundles.specs.declared.bundle.AnyBundle.{AnyBundle}
 use Rattle.tool_bundles.specs.declared.bundle.AnyBundle.TheVariants.{Plain, Stable}
-use Rattle.tool_bundles.specs.StableBundles.{IsAnyBegunBy, IsAnyJudged}
+use Rattle.tool_bundles.specs.StableBundles.{IsAnyBegunBy}
+use Rattle.tool_checks.specs.Judged.{IsAnyJudged}
 use Rattle.tool_runs.specs.Course.{course_of}
 use Rattle.tool_bundles.specs.LastPair.{IsLast}
 use Rattle.tool_runs.specs.Run.{journal_end, run_ending, IsRunOutput, OfJudged, OfBegun, OfLines, RunGives}

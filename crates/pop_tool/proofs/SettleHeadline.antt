@@ -25,10 +25,9 @@ use Rattle.goal_settle.specs.Chosen.{proof_at}
 use Rattle.goal_settle.proofs.Rests.{settlement_right}
 use Rattle.tool_bundles.specs.declared.bundle.AnyBundle.{AnyBundle}
 use Rattle.tool_bundles.specs.declared.bundle.AnyBundle.TheVariants.{Plain, Stable}
-use Rattle.tool_bundles.specs.Bundles.{IsJudged}
-use Rattle.tool_bundles.specs.StableBundles.{IsAnyBegunBy, IsStableJudged}
-use Rattle.tool_proofs.specs.Settle.{takes_allowed, IsSettled, OfJudged, OfLines, SettleGives}
-use Rattle.tool_proofs.specs.Settle.{goal_takes_allowed, IsSettledByGoals, OfGoalsJudged, OfAnyBegun}
+use Rattle.tool_checks.specs.Judged.{IsJudged, IsStableJudged}
+use Rattle.tool_bundles.specs.StableBundles.{IsAnyBegunBy}
+use Rattle.tool_proofs.specs.Settle.{takes_allowed, IsSettled, OfJudged, OfLines, SettleGives, goal_takes_allowed, IsSettledByGoals, OfGoalsJudged, OfAnyBegun}
 use Rattle.pop_tool.specs.Answer.{InputGives}
 use Rattle.pop_tool.specs.Headline.{IsBundleInput, SettleSays}
 use Rattle.pop_tool.specs.StableHeadline.{IsStableInput, SettledSays}

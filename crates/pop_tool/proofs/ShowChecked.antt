@@ -13,11 +13,13 @@ use Rattle.tool_texts.specs.declared.output.Output.{Output}
 use Rattle.tool_texts.specs.declared.output.Ending.TheVariants.{Done}
 use Rattle.tool_texts.specs.Steps.{After}
 use Rattle.tool_texts.specs.Refusals.{output_for}
-use Rattle.tool_bundles.specs.Bundles.{IsBundleOf, IsJudged}
+use Rattle.tool_bundles.specs.Bundles.{IsBundleOf}
+use Rattle.tool_checks.specs.Judged.{IsJudged}
 use Rattle.tool_proofs.specs.Check.{judgement, OfBundle, CheckGives}
 use Rattle.tool_proofs.proofs.PlainLine.{plain_line}
 use Rattle.tool_proofs.specs.Show.{shown_or_rejected, OfBundle as OfShownBundle, ShowGives}
-use Rattle.tool_bundles.proofs.OneBundle.{one_judged, one_bundle}
+use Rattle.tool_checks.proofs.OneJudged.{one_judged}
+use Rattle.tool_bundles.proofs.OneBundle.{one_bundle}
 use Rattle.pop_tool.specs.ShownChecked.{AreOfBundle, IsWithoutGoals, IsShownAsChecked}
 use Rattle.pop_tool.proofs.Replies.{given_for}
 use Rattle.pop_tool.proofs.ShowHeadline.{bundle_line}

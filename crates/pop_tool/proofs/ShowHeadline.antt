@@ -18,7 +18,8 @@ use Rattle.tool_texts.specs.Steps.{After}
 use Rattle.tool_texts.specs.Lines.{just_one}
 use Rattle.tool_texts.specs.Refusals.{output_for}
 use Rattle.tool_texts.proofs.OneValue.{one_value}
-use Rattle.tool_bundles.specs.Bundles.{bundle_in, IsBundleOf, IsJudged}
+use Rattle.tool_bundles.specs.Bundles.{bundle_in, IsBundleOf}
+use Rattle.tool_checks.specs.Judged.{IsJudged}
 use Rattle.tool_proofs.specs.Show.{shown_or_rejected, OfBundle, OfLine, ShowGives}
 use Rattle.tool_bundles.proofs.Certified.{some_value}
 use Rattle.pop_tool.specs.Answer.{InputGives}

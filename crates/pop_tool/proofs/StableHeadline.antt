@@ -25,7 +25,8 @@ use Rattle.tool_texts.specs.Refusals.{refusal_text, output_for}
 use Rattle.tool_texts.proofs.OneValue.{one_value}
 use Rattle.tool_bundles.specs.declared.bundle.AnyBundle.{AnyBundle}
 use Rattle.tool_bundles.specs.declared.bundle.AnyBundle.TheVariants.{Plain, Stable}
-use Rattle.tool_bundles.specs.StableBundles.{any_bundle_in, IsAnyBundleOf, IsStableJudged}
+use Rattle.tool_bundles.specs.StableBundles.{any_bundle_in, IsAnyBundleOf}
+use Rattle.tool_checks.specs.Judged.{IsStableJudged}
 use Rattle.tool_proofs.specs.Check.{stable_text, judgement, stable_judgement, OfStableBundle, OfAnyBundle, OfLine, CheckGives}
 use Rattle.tool_bundles.proofs.AnyBundles.{of_stable, stable_value}
 use Rattle.pop_tool.specs.Answer.{InputGives}

@@ -1,7 +1,6 @@
 pub mod InputSize
 pub mod Starts
 pub mod Begun
-pub mod Rejected
 pub mod Certified
 pub mod AnyBundles
 pub mod OneLast

@@ -1,4 +1,4 @@
--- The bundle of a line whose leaves may have goals, and what the check says of its proof.
+-- The bundle of a line whose leaves may have goals, how its net starts, and the limits that the check of its proof needs.
 use Rattle.std.specs.Prelude.{◌≡◌, ℕ, List, length, Option, Some, None, Result, Ok, Err, if◌then◌else◌}
 use Rattle.serde_json.specs.Data.{Data}
 use Rattle.pop_net.specs.NetModel.{NetModel}
@@ -6,10 +6,6 @@ use Rattle.cert_base.specs.StableProof.{IsStableProofWithin}
 use Rattle.goal_json.specs.StableFile.{has_goals}
 use Rattle.goal_json.specs.Bundles.{stable_bundle_at}
 use Rattle.goal_json.specs.declared.bundle.StableBundle.{StableBundle}
-use Rattle.goal_checker.specs.declared.fault.StableRejected.{StableRejected}
-use Rattle.goal_checker.specs.declared.fault.StableRejected.TheVariants as rejected
-use Rattle.goal_checker.specs.ValidStable.{ValidStableProof}
-use Rattle.goal_checker.specs.Rejections.{IsStableRejected}
 use Rattle.tool_texts.specs.declared.refusal.Refusal.{Refusal}
 use Rattle.tool_texts.specs.declared.refusal.Refusal.TheVariants.{NotJson}
 use Rattle.tool_texts.specs.Steps.{◌>>=◌}
@@ -17,7 +13,7 @@ use Rattle.tool_texts.specs.Json.{HasValue}
 use Rattle.tool_bundles.specs.declared.bundle.AnyBundle.{AnyBundle}
 use Rattle.tool_bundles.specs.declared.bundle.AnyBundle.TheVariants.{Plain, Stable}
 use Rattle.tool_bundles.specs.Start.{formatted, fitting_in}
-use Rattle.tool_bundles.specs.Bundles.{bundle_in, IsBundleWithin, IsJudged}
+use Rattle.tool_bundles.specs.Bundles.{bundle_in, IsBundleWithin}
 
 -- the bundle with goals that this value is the file of
 abbrev pub stable_in : Data → Result StableBundle Refusal
@@ -65,14 +61,3 @@ pub record IsStableBundleWithin (bundle : StableBundle) : Type 0 where
 abbrev pub IsAnyBundleWithin : AnyBundle → Type 0
 IsAnyBundleWithin (Plain bundle) = IsBundleWithin bundle
 IsAnyBundleWithin (Stable bundle) = IsStableBundleWithin bundle
-
--- the proof is valid, or this is its first part that is not valid
-abbrev pub IsStableJudged : StableBundle → Option StableRejected → Type 0
-IsStableJudged bundle None = ValidStableProof bundle.net bundle.pred bundle.proof
-IsStableJudged bundle (Some rejected) = IsStableRejected bundle.net bundle.pred bundle.proof rejected
-
-abbrev pub IsAnyJudged : AnyBundle → Option StableRejected → Type 0
-IsAnyJudged (Plain bundle) None = IsJudged bundle None
-IsAnyJudged (Plain bundle) (Some (rejected.Plain part)) = IsJudged bundle (Some part)
-IsAnyJudged (Plain bundle) (Some (rejected.Goal leaf value why)) = ⊥
-IsAnyJudged (Stable bundle) judged = IsStableJudged bundle judged

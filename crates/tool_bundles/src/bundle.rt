@@ -1,26 +1,21 @@
 //! The bundle of a line, and how its net starts.
 
-ghost use Rattle.std.specs.Prelude.{◌≡◌, option_map, Some, IfOk, OnOk};
-ghost use Rattle.pop_io.specs.Failures.{IfFault};
+ghost use Rattle.std.specs.Prelude.{◌≡◌, option_map, Some, IfOk};
 ghost use Rattle.serde_json.specs.View.{view};
-ghost use Rattle.cert_base.specs.ValidProof.{ValidProof};
-ghost use Rattle.cert_base.specs.ProofBound.{proof_bound};
-ghost use Rattle.pop_checker.specs.Rejections.{IsRejected};
 ghost use Rattle.tool_texts.specs.Steps.{GivesStep, Obeys};
 ghost use Rattle.tool_bundles.specs.Start.{IsStart};
-ghost use Rattle.tool_bundles.specs.Bundles.{bundle_in, IsBundleWithin, IsBundleOf, TellsRejection};
+ghost use Rattle.tool_bundles.specs.Bundles.{bundle_in, IsBundleWithin, IsBundleOf};
 ghost use Rattle.tool_bundles.specs.StableBundles.{stable_in, any_bundle_in, IsStableBundleWithin, IsAnyBundleWithin};
 ghost use Rattle.tool_bundles.specs.StableBundles.{IsAnyBundleOf, net_of, any_begun, IsAnyBegunBy};
 
 use crate::start::{Start, start_of};
 use cert_json::{Bundle, read_bundle};
 use goal_json::{StableBundle, has_goals, read_stable_bundle};
-use pop_checker::{Checked, Rejected, check};
 use pop_io::Failure;
 use pop_net::Net;
 use serde_json::Value;
 use std::alloc::Global;
-use tool_texts::{Output, Refusal, Stop, stop_of, value_of};
+use tool_texts::{Refusal, Stop, stop_of, value_of};
 
 /// The bundle of a line that has this value.
 fn bundle_of_value(alloc: Global, value: &Option<Value>) -> Result<Bundle, Stop>
@@ -128,26 +123,4 @@ pub fn begin_any(alloc: Global, lines: (&[u8], &[u8])) -> Result<(AnyBundle, Sta
 {
     let value = value_of(alloc, lines.0)?;
     any_bundle_and_start(alloc, &value, lines.1)
-}
-
-/// The net and the predicate of a bundle, if its proof is valid.
-pub fn check_bundle(alloc: Global, bundle: Bundle) -> Result<Checked, Failure<Rejected>>
-    requires { IsBundleWithin bundle }
-    ensures valid { OnOk result (ValidProof bundle.net bundle.pred bundle.proof) }
-    ensures fault { IfFault result (IsRejected bundle.net bundle.pred bundle.proof) }
-    ensures kept { IfOk result (λ checked. checked
-        ≡ record { net = bundle.net; pred = bundle.pred; bound = proof_bound bundle.proof }) }
-{
-    let Bundle { net, pred, proof } = bundle;
-    check(alloc, net, pred, &proof)
-}
-
-/// The output for a proof that is not valid.
-pub fn rejection_of(alloc: Global, fault: Failure<Rejected>) -> Result<Output, Stop>
-    ensures { Obeys (TellsRejection fault) (λ output. output) result }
-{
-    match fault {
-        Failure::Fault(rejected) => Ok(Output::of_rejection(alloc, rejected)?),
-        Failure::NoMemory => Err(Failure::NoMemory),
-    }
 }

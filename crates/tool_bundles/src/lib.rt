@@ -1,5 +1,5 @@
 //! What several commands read: names, predicates, counts, nets with their input crowds, and bundles.
-//! It stands on `tool_texts`, the readers of files below, and the checks of proofs.
+//! It stands on `tool_texts`, and on the readers of files below.
 //! The layer above uses: each call gives what its step in `specs` gives for a line, or the refusal of its first fault.
 #![tactic(auto)]
 
@@ -7,8 +7,6 @@ mod bundle;
 mod named;
 mod start;
 
-pub use bundle::{
-    AnyBundle, any_bundle_of_line, begin_any, bundle_of_line, check_bundle, rejection_of,
-};
+pub use bundle::{AnyBundle, any_bundle_of_line, begin_any, bundle_of_line};
 pub use named::{counts_in, names_of, pred_of};
 pub use start::{Start, net_and_start};

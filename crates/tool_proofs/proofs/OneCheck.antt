@@ -11,7 +11,8 @@ use Rattle.tool_texts.specs.Lines.{just_one}
 use Rattle.tool_texts.proofs.Goes.{one_after}
 use Rattle.tool_bundles.specs.declared.bundle.AnyBundle.{AnyBundle}
 use Rattle.tool_bundles.specs.declared.bundle.AnyBundle.TheVariants.{Plain, Stable}
-use Rattle.tool_bundles.proofs.OneBundle.{one_judged, one_stable_judged, one_any_bundle}
+use Rattle.tool_checks.proofs.OneJudged.{one_judged, one_stable_judged}
+use Rattle.tool_bundles.proofs.OneBundle.{one_any_bundle}
 use Rattle.tool_proofs.specs.Check.{judgement, stable_judgement, OfBundle, OfStableBundle, OfAnyBundle, OfLine, CheckGives}
 
 of_bundle : (bundle : Bundle) (x y : Result Output Refusal) → OfBundle bundle x → OfBundle bundle y → x ≡ y

@@ -17,9 +17,9 @@ use Rattle.goal_checker.specs.declared.fault.StableRejected.{StableRejected}
 use Rattle.goal_settle.specs.Chosen.{proof_at}
 use Rattle.tool_bundles.specs.declared.bundle.AnyBundle.{AnyBundle}
 use Rattle.tool_bundles.specs.declared.bundle.AnyBundle.TheVariants.{Plain, Stable}
-use Rattle.tool_proofs.specs.Settle.{settle_output, takes_allowed, IsSettled, OfJudged, OfBegun, OfLines, SettleGives}
-use Rattle.tool_proofs.specs.Settle.{goals_output, goal_takes_allowed, IsSettledByGoals, OfGoalsJudged, OfAnyBegun}
-use Rattle.tool_bundles.proofs.OneBundle.{one_judged, one_stable_judged, one_any_begin}
+use Rattle.tool_proofs.specs.Settle.{settle_output, takes_allowed, IsSettled, OfJudged, OfBegun, OfLines, SettleGives, goals_output, goal_takes_allowed, IsSettledByGoals, OfGoalsJudged, OfAnyBegun}
+use Rattle.tool_checks.proofs.OneJudged.{one_judged, one_stable_judged}
+use Rattle.tool_bundles.proofs.OneBundle.{one_any_begin}
 
 module _ (bundle : Bundle) (counts : List ℕ) (x y : Result Output Refusal) where
   one_settled : IsSettled bundle counts x → IsSettled bundle counts y → x ≡ y

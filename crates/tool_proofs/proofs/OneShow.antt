@@ -8,7 +8,8 @@ use Rattle.tool_texts.specs.Steps.{After}
 use Rattle.tool_texts.specs.Lines.{just_one}
 use Rattle.tool_texts.proofs.Goes.{one_after}
 use Rattle.tool_proofs.specs.Show.{shown_or_rejected, OfBundle, OfLine, ShowGives}
-use Rattle.tool_bundles.proofs.OneBundle.{one_judged, one_bundle}
+use Rattle.tool_checks.proofs.OneJudged.{one_judged}
+use Rattle.tool_bundles.proofs.OneBundle.{one_bundle}
 
 of_bundle : (bundle : Bundle) (x y : Result Output Refusal) → OfBundle bundle x → OfBundle bundle y → x ≡ y
 of_bundle bundle x y p q =

@@ -9,14 +9,14 @@ use Rattle.tool_texts.specs.declared.output.Output.{Output}
 use Rattle.tool_texts.specs.declared.output.Ending.TheVariants.{Done}
 use Rattle.tool_texts.specs.Steps.{After}
 use Rattle.tool_texts.specs.Lines.{just_one}
-use Rattle.tool_texts.specs.Rejections.{rejection_output, stable_rejection_output}
+use Rattle.tool_checks.specs.Rejections.{rejection_output, stable_rejection_output}
 use Rattle.goal_json.specs.declared.bundle.StableBundle.{StableBundle}
 use Rattle.goal_checker.specs.declared.fault.StableRejected.{StableRejected}
 use Rattle.goal_checker.specs.ValidStable.{stable_bound}
 use Rattle.tool_bundles.specs.declared.bundle.AnyBundle.{AnyBundle}
 use Rattle.tool_bundles.specs.declared.bundle.AnyBundle.TheVariants.{Plain, Stable}
-use Rattle.tool_bundles.specs.Bundles.{IsJudged}
-use Rattle.tool_bundles.specs.StableBundles.{IsAnyBundleOf, IsStableJudged}
+use Rattle.tool_checks.specs.Judged.{IsJudged, IsStableJudged}
+use Rattle.tool_bundles.specs.StableBundles.{IsAnyBundleOf}
 
 -- the line of a valid proof, with its bound per agent
 abbrev pub certified_text : ℕ → List ℕ

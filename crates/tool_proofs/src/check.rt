@@ -13,7 +13,8 @@ use goal_checker::check_stable;
 use goal_json::StableBundle;
 use pop_io::Failure;
 use std::alloc::Global;
-use tool_bundles::{AnyBundle, any_bundle_of_line, check_bundle, rejection_of};
+use tool_bundles::{AnyBundle, any_bundle_of_line};
+use tool_checks::{check_bundle, rejection_of, stable_rejection_output};
 use tool_texts::{Ending, Output, Stop, just_one_line};
 
 /// The output for a valid proof with this bound.
@@ -50,7 +51,7 @@ fn judge_stable(alloc: Global, bundle: StableBundle) -> Result<Output, Stop>
 {
     match check_stable(alloc, &bundle.net, &bundle.pred, &bundle.proof) {
         Ok(bound) => stable(alloc, bound),
-        Err(Failure::Fault(rejected)) => Ok(Output::of_stable_rejection(alloc, rejected)?),
+        Err(Failure::Fault(rejected)) => Ok(stable_rejection_output(alloc, rejected)?),
         Err(Failure::NoMemory) => Err(Failure::NoMemory),
     }
 }

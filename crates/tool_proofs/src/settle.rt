@@ -26,7 +26,8 @@ use pop_lines::push_field;
 use pop_net::Net;
 use pop_settle::{SettleFault, Settled, Take};
 use std::alloc::{AllocError, Global};
-use tool_bundles::{AnyBundle, Start, begin_any, rejection_of};
+use tool_bundles::{AnyBundle, Start, begin_any};
+use tool_checks::{rejection_of, stable_rejection_output};
 use tool_texts::{Ending, Output, Refusal, Stop, just_two_lines};
 
 fn push_take(text: &mut Vec<u8>, take: Take) -> Result<(), AllocError>
@@ -167,7 +168,7 @@ fn settle_goals_begun(
 {
     match check_stable(alloc, &bundle.net, &bundle.pred, &bundle.proof) {
         Ok(_bound) => settle_by_goals(alloc, &bundle, counts, crowd),
-        Err(Failure::Fault(rejected)) => Ok(Output::of_stable_rejection(alloc, rejected)?),
+        Err(Failure::Fault(rejected)) => Ok(stable_rejection_output(alloc, rejected)?),
         Err(Failure::NoMemory) => Err(Failure::NoMemory),
     }
 }

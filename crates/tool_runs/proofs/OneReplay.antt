@@ -8,7 +8,8 @@ use Rattle.tool_texts.specs.Steps.{After}
 use Rattle.tool_texts.specs.Lines.{two_and_some}
 use Rattle.tool_texts.proofs.Goes.{one_after}
 use Rattle.tool_runs.specs.Replay.{judged_output, OfBegun, OfLines, ReplayGives}
-use Rattle.tool_bundles.proofs.OneBundle.{one_any_judged, one_any_begin}
+use Rattle.tool_checks.proofs.OneJudged.{one_any_judged}
+use Rattle.tool_bundles.proofs.OneBundle.{one_any_begin}
 
 of_begun : (kind : RunKind) (lines : List (List ℕ)) (begin : AnyBundle × List ℕ) (x y : Result Output Refusal) → OfBegun kind lines begin x → OfBegun kind lines begin y → x ≡ y
 of_begun kind lines begin x y p q = p.2 ∙ ap (judged_output kind begin.0 begin.1 lines) (one_any_judged begin.0 p.0 q.0 p.1 q.1) ∙ sym q.2

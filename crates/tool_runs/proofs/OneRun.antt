@@ -29,7 +29,8 @@ use Rattle.tool_runs.specs.Run.{journal_end, run_ending, IsRunOutput, OfJudged, 
 use Rattle.tool_bundles.proofs.Begun.{begun_two}
 use Rattle.tool_runs.proofs.Ran.{run_tuples}
 use Rattle.tool_bundles.proofs.OneLast.{one_last}
-use Rattle.tool_bundles.proofs.OneBundle.{one_any_judged, one_any_begin}
+use Rattle.tool_checks.proofs.OneJudged.{one_any_judged}
+use Rattle.tool_bundles.proofs.OneBundle.{one_any_begin}
 
 pub same_output : (x y : Output) → x.text ≡ y.text → x.ending ≡ y.ending → x ≡ y
 same_output x y text ending =

@@ -17,10 +17,11 @@ use Rattle.tool_bundles.specs.declared.bundle.AnyBundle.{AnyBundle}
 use Rattle.tool_bundles.specs.declared.bundle.AnyBundle.TheVariants.{Plain, Stable}
 use Rattle.tool_runs.specs.declared.proved.Proved.{Proved}
 use Rattle.tool_runs.specs.declared.proved.Proved.TheVariants as proved
-use Rattle.tool_bundles.specs.Bundles.{IsBundleWithin, IsJudged}
+use Rattle.tool_bundles.specs.Bundles.{IsBundleWithin}
+use Rattle.tool_checks.specs.Judged.{IsJudged, IsStableJudged}
 use Rattle.tool_bundles.specs.declared.start.Start.{Start}
 use Rattle.tool_bundles.specs.Start.{IsStart}
-use Rattle.tool_bundles.specs.StableBundles.{net_of, IsStableBundleWithin, IsStableJudged}
+use Rattle.tool_bundles.specs.StableBundles.{net_of, IsStableBundleWithin}
 use Rattle.tool_runs.specs.Course.{Course, course_of}
 use Rattle.tool_runs.specs.Proved.{proved_net, IsProvedOf}
 

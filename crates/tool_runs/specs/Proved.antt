@@ -11,7 +11,7 @@ use Rattle.journal_text.specs.declared.last.Outcome.TheVariants.{Agreed, Known}
 use Rattle.tool_bundles.specs.declared.bundle.AnyBundle.{AnyBundle}
 use Rattle.tool_runs.specs.declared.proved.Proved.{Proved}
 use Rattle.tool_runs.specs.declared.proved.Proved.TheVariants as proved
-use Rattle.tool_bundles.specs.StableBundles.{IsAnyJudged}
+use Rattle.tool_checks.specs.Judged.{IsAnyJudged}
 use Rattle.tool_runs.specs.Course.{Course, course_of}
 
 abbrev pub proved_net : Proved → NetModel

@@ -19,10 +19,11 @@ use Rattle.tool_texts.specs.declared.output.Ending.TheVariants.{Done, Undecided}
 use Rattle.tool_texts.specs.declared.output.Output.{Output}
 use Rattle.tool_texts.specs.Steps.{After}
 use Rattle.tool_texts.specs.Lines.{just_two}
-use Rattle.tool_texts.specs.Rejections.{stable_rejection_output}
+use Rattle.tool_checks.specs.Rejections.{stable_rejection_output}
 use Rattle.tool_bundles.specs.declared.bundle.AnyBundle.{AnyBundle}
 use Rattle.tool_bundles.specs.LastPair.{IsLast}
-use Rattle.tool_bundles.specs.StableBundles.{IsAnyBegunBy, IsAnyJudged}
+use Rattle.tool_bundles.specs.StableBundles.{IsAnyBegunBy}
+use Rattle.tool_checks.specs.Judged.{IsAnyJudged}
 use Rattle.tool_runs.specs.Course.{Course, course_of}
 
 -- the journal's last line: the one that is told of such an end if no pair is left, else the least pair that changes a

@@ -4,7 +4,8 @@ ghost use Rattle.std.specs.Prelude.{◌≡◌, ℕ, List as Items, length, Some,
 ghost use Rattle.pop_io.specs.Failures.{IfFault};
 ghost use Rattle.tool_bundles.specs.declared.bundle.AnyBundle.TheVariants.{Plain, Stable};
 ghost use Rattle.tool_bundles.specs.Bundles.{IsBundleWithin};
-ghost use Rattle.tool_bundles.specs.StableBundles.{IsStableBundleWithin, IsAnyBundleWithin, net_of, IsAnyJudged};
+ghost use Rattle.tool_bundles.specs.StableBundles.{IsStableBundleWithin, IsAnyBundleWithin, net_of};
+ghost use Rattle.tool_checks.specs.Judged.{IsAnyJudged};
 ghost use Rattle.tool_runs.specs.Proved.{proved_net, proved_rest, proved_pred, proved_last, IsProvedOf};
 
 use cert_json::Bundle;
@@ -17,7 +18,8 @@ use pop_journal::Last;
 use pop_net::Net;
 use pres_ast::Pred;
 use std::alloc::Global;
-use tool_bundles::{AnyBundle, check_bundle};
+use tool_bundles::AnyBundle;
+use tool_checks::check_bundle;
 
 /// A net whose proof is valid, and where its runs end.
 #[derive(Drop)]

@@ -22,6 +22,7 @@ use pop_journal::{Journal, JournalFault, VerifyFault, read_journal, verify, veri
 use run_spec::RunKind;
 use std::alloc::Global;
 use tool_bundles::{AnyBundle, Start, begin_any};
+use tool_checks::stable_rejection_output;
 use tool_texts::{Ending, Output, Refusal, Stop, two_and_some_lines};
 
 /// The number of the line in which the journal begins, after the bundle and the crowd line.
@@ -152,7 +153,7 @@ fn replay_begun(
     let counts = counts.as_slice();
     match prove(alloc, bundle, counts) {
         Ok(proved) => replay_from(alloc, kind, &proved, counts, crowd, text),
-        Err(Failure::Fault(rejected)) => Ok(Output::of_stable_rejection(alloc, rejected)?),
+        Err(Failure::Fault(rejected)) => Ok(stable_rejection_output(alloc, rejected)?),
         Err(Failure::NoMemory) => Err(Failure::NoMemory),
     }
 }

@@ -24,6 +24,7 @@ use std::alloc::{AllocError, Global};
 use std::sync::Wait;
 use std::thread::Threads;
 use tool_bundles::{AnyBundle, Start, begin_any};
+use tool_checks::stable_rejection_output;
 use tool_texts::{Ending, Output, Stop, just_two_lines};
 
 /// Whether a run has one worker. A whole run by one worker is made without threads; any other run is made on threads.
@@ -189,7 +190,7 @@ fn prepare_begun(
             let run = pending_of(alloc, lines, setting, crowd)?;
             Ok(run)
         }
-        Err(Failure::Fault(rejected)) => Ok(Prepared::Text(Output::of_stable_rejection(
+        Err(Failure::Fault(rejected)) => Ok(Prepared::Text(stable_rejection_output(
             alloc, rejected,
         )?)),
         Err(Failure::NoMemory) => Err(Failure::NoMemory),

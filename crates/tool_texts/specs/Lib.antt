@@ -1,7 +1,6 @@
 pub mod Statuses
 pub mod Steps
 pub mod Refusals
-pub mod Rejections
 pub mod Differences
 pub mod Lines
 pub mod Json

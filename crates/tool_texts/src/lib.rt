@@ -1,6 +1,6 @@
-//! What the text of every command is made of: refusals, rejections, differences, statuses, input lines and JSON.
-//! It stands on `pop_lines`, `pop_words`, `json_shape`, `journal_text` and `pop_checker`.
-//! The layer above uses: an `Output` for a refusal, rejection or difference has exactly the text that `specs` defines.
+//! What the text of every command is made of: refusals, differences, statuses, input lines and JSON.
+//! It stands on `pop_lines`, `pop_words`, `json_shape` and `journal_text`.
+//! The layer above uses: an `Output` for a refusal or a difference has exactly the text that `specs` defines.
 #![tactic(auto)]
 
 mod difference;
@@ -8,7 +8,6 @@ mod json;
 mod lines;
 mod output;
 mod refusal;
-mod rejection;
 mod status;
 mod stop;
 

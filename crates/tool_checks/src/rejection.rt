@@ -1,16 +1,16 @@
 //! Why a proof is not valid, and the line that says so.
 
-ghost use Rattle.std.specs.Prelude.{Some};
-ghost use Rattle.tool_texts.specs.Rejections.{layer_words, tree_words, rejected_text};
-ghost use Rattle.tool_texts.specs.Rejections.{set_words, goal_words, stable_rejected_text};
+ghost use Rattle.std.specs.Prelude.{◌≡◌, Some, IfOk};
+ghost use Rattle.tool_checks.specs.Rejections.{layer_words, tree_words, rejected_text, rejection_output};
+ghost use Rattle.tool_checks.specs.Rejections.{set_words, goal_words, stable_rejected_text, stable_rejection_output};
 
-use crate::output::{Ending, Output};
 use cert_goals::{GoalWhy, SetFault};
 use cert_layers::LayerWhy;
 use goal_checker::StableRejected;
 use pop_checker::Rejected;
 use std::alloc::{AllocError, Global};
 use std::fmt;
+use tool_texts::{Ending, Output};
 use tree_faults::{TreeFault, TreeWhy};
 
 /// What is wrong with the layers of a leaf.
@@ -138,29 +138,24 @@ impl fmt::Display for StableRejection {
     }
 }
 
-impl Output {
-    ghost use Rattle.std.specs.Prelude.{◌≡◌, IfOk};
-    ghost use Rattle.tool_texts.specs.Rejections.{rejection_output, stable_rejection_output};
+/// What is written for a proof with goals that is not valid: the line that names the first part that fails.
+pub fn stable_rejection_output(
+    alloc: Global,
+    rejected: StableRejected,
+) -> Result<Output, AllocError>
+    ensures { IfOk result (λ output. output ≡ stable_rejection_output rejected) }
+{
+    let line = StableRejection(rejected);
+    let text = format!(in alloc; "{line}\n")?;
+    let ending = Ending::Rejected;
+    Ok(Output::new(text.into_bytes(), ending))
+}
 
-    /// What is written for a proof with goals that is not valid: the line that names the first part that fails.
-    pub fn of_stable_rejection(
-        alloc: Global,
-        rejected: StableRejected,
-    ) -> Result<Output, AllocError>
-        ensures { IfOk result (λ output. output ≡ stable_rejection_output rejected) }
-    {
-        let line = StableRejection(rejected);
-        let text = format!(in alloc; "{line}\n")?;
-        let ending = Ending::Rejected;
-        Ok(Output::new(text.into_bytes(), ending))
-    }
-
-    /// What is written for a proof that is not valid: the line that names the first part that fails.
-    pub fn of_rejection(alloc: Global, rejected: Rejected) -> Result<Output, AllocError>
-        ensures { IfOk result (λ output. output ≡ rejection_output rejected) }
-    {
-        let rejected = Rejection(rejected);
-        let text = format!(in alloc; "{rejected}\n")?;
-        Ok(Output::new(text.into_bytes(), Ending::Rejected))
-    }
+/// What is written for a proof that is not valid: the line that names the first part that fails.
+pub fn rejection_output(alloc: Global, rejected: Rejected) -> Result<Output, AllocError>
+    ensures { IfOk result (λ output. output ≡ rejection_output rejected) }
+{
+    let rejected = Rejection(rejected);
+    let text = format!(in alloc; "{rejected}\n")?;
+    Ok(Output::new(text.into_bytes(), Ending::Rejected))
 }

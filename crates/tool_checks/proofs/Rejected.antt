@@ -8,10 +8,10 @@ use Rattle.pop_checker.specs.declared.fault.Rejected.{Rejected}
 use Rattle.pop_checker.specs.Rejections.{IsRejected}
 use Rattle.tool_texts.specs.declared.refusal.Refusal.{Refusal}
 use Rattle.tool_texts.specs.declared.output.Output.{Output}
-use Rattle.tool_texts.specs.Rejections.{rejection_output}
+use Rattle.tool_checks.specs.Rejections.{rejection_output}
 use Rattle.tool_texts.specs.Steps.{Obeys, Stop}
 use Rattle.tool_texts.proofs.Goes.{obeys_wider}
-use Rattle.tool_bundles.specs.Bundles.{IsJudged, TellsRejection}
+use Rattle.tool_checks.specs.Judged.{IsJudged, TellsRejection}
 
 pub rejected_obeys : (bundle : Bundle) (rule : Result Output Refusal → Type 0) → ((rejected : Rejected) → IsJudged bundle (Some rejected) → rule (Ok (rejection_output rejected)))
     → (fault : Failure Rejected) → Names (IsRejected bundle.net bundle.pred bundle.proof) fault → (r : Result Output Stop) → Obeys (TellsRejection fault) (λ (o : Output). o) r → Obeys rule (λ (o : Output). o) r
