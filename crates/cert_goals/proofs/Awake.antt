@@ -20,7 +20,7 @@ use Rattle.pop_hushed.specs.Laws.{IsKeptMove}
 use Rattle.pop_hushed.proofs.Kept.{kept_listed, listed_kept}
 use Rattle.pop_hushed.proofs.Moves.{hushed_move, kept_move}
 use Rattle.goal_sets.specs.Stays.{IsRestWithin, WasPossible}
-use Rattle.cert_goals.specs.SetTests.{is_other_within, is_rest_within}
+use Rattle.cert_sets.specs.SetTests.{is_other_within, is_rest_within}
 
 -- a move that isn't silent takes its states, in one order or the other
 pub takes_pair : (x y : ℕ) (u : Move) → silent_move u ≡ false → IsPair x y u → takes_states x y u ≡ true

@@ -14,9 +14,9 @@ use Rattle.pop_net.specs.Hushed.{hushed}
 use Rattle.cert_goals.specs.declared.fault.SetFault.{SetFault}
 use Rattle.cert_goals.specs.declared.fault.SetFault.TheVariants.{Output, Leaves, Wakes}
 use Rattle.goal_sets.specs.Stays.{escapes, SleepIn, IsGuardedAt, IsGuarded}
-use Rattle.cert_goals.specs.SetFaults.{HasOutput, IsGoodSet, AreGoodSets, IsLeft, IsBadBy, AreBadBy, ChecksSets}
-use Rattle.cert_goals.specs.SetSearch.{FindsLeft, fault_of_woken}
-use Rattle.cert_goals.specs.SetTests.{FindsWoken}
+use Rattle.cert_sets.specs.SetFaults.{HasOutput, IsGoodSet, AreGoodSets, IsLeft, IsBadBy, AreBadBy, ChecksSets}
+use Rattle.cert_sets.specs.SetSearch.{FindsLeft, fault_of_woken}
+use Rattle.cert_sets.specs.SetTests.{FindsWoken}
 use Rattle.cert_goals.proofs.Woken.{all_sleep, first_awake, not_asleep}
 
 module _ (leaf : LeafModel) (moves set : List ℕ) where

@@ -14,7 +14,7 @@ use Rattle.pop_net.specs.Hushed.{hushed}
 use Rattle.pop_hushed.proofs.Kept.{listed_cases}
 use Rattle.goal_sets.specs.Stays.{leads_out, IsGuardedAt}
 use Rattle.goal_sets.proofs.Escapes.{escape_is, is_escape}
-use Rattle.cert_goals.specs.SetTests.{is_silent_move, is_unguarded}
+use Rattle.cert_sets.specs.SetTests.{is_silent_move, is_unguarded}
 use Rattle.cert_goals.proofs.Woken.{other_silent, silent_other}
 
 module _ (leaf : LeafModel) (moves set : List ℕ) where

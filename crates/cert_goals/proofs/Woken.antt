@@ -19,7 +19,7 @@ use Rattle.pop_net.specs.Hushed.{is_kept, hushed}
 use Rattle.pop_hushed.proofs.Kept.{kept_listed}
 use Rattle.pop_hushed.proofs.Moves.{hush_silent, hushed_move, kept_move, other_move}
 use Rattle.goal_sets.specs.Stays.{takes_within, WasPossible, SleepsFor, SleepIn}
-use Rattle.cert_goals.specs.SetTests.{is_rest_within, wakes_within, wakes_awake, is_silent_move, wakes_one, FindsWoken}
+use Rattle.cert_sets.specs.SetTests.{is_rest_within, wakes_within, wakes_awake, is_silent_move, wakes_one, FindsWoken}
 use Rattle.cert_goals.proofs.Awake.{asleep, awake, rest_is, rest_isnt, met_by}
 
 -- a move that isn't kept is silent in the hushed leaf

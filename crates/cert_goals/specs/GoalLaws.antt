@@ -13,7 +13,7 @@ use Rattle.cert_base.specs.ValidLayers.{moves_of_layers, ValidLayers}
 use Rattle.goal_sets.specs.Reached.{EndsWithinOne}
 use Rattle.goal_sets.specs.ClosedGoal.{IsClosedGoal, ComesToGoal}
 use Rattle.cert_goals.specs.SomeLayers.{layered}
-use Rattle.cert_goals.specs.SetFaults.{AreGoodSets}
+use Rattle.cert_sets.specs.SetFaults.{AreGoodSets}
 use Rattle.cert_goals.specs.ValidGoal.{moves_of_goal, sets_of_goal, ValidGoal}
 
 -- what holds of good sets within one of which a tree shows all ends to be, at each input with the value

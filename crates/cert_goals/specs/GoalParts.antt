@@ -14,7 +14,7 @@ use Rattle.tree_faults.specs.Refusals.{IsFaultFor}
 use Rattle.cert_goals.specs.declared.fault.GoalWhy.{GoalWhy}
 use Rattle.cert_goals.specs.declared.fault.GoalWhy.TheVariants.{Layers, Set, Node as NodeFault}
 use Rattle.cert_goals.specs.SomeLayers.{layered}
-use Rattle.cert_goals.specs.SetFaults.{AreGoodSets, AreBadBy}
+use Rattle.cert_sets.specs.SetFaults.{AreGoodSets, AreBadBy}
 
 -- the fault is that of the layers
 abbrev pub IsLayersFault : LeafModel → List Layer → GoalWhy → Type 0

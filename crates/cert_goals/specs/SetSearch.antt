@@ -4,7 +4,7 @@ use Rattle.pop_net.specs.LeafModel.{LeafModel}
 use Rattle.cert_goals.specs.declared.fault.SetFault.{SetFault}
 use Rattle.cert_goals.specs.declared.fault.SetFault.TheVariants.{Wakes}
 use Rattle.goal_sets.specs.Stays.{IsGuarded}
-use Rattle.cert_goals.specs.SetFaults.{HasOutput, IsFirstOther, IsLeft}
+use Rattle.cert_sets.specs.SetFaults.{HasOutput, IsFirstOther, IsLeft}
 
 -- the first state of the set that doesn't have the value as its output, if there is one
 abbrev pub FindsOther : LeafModel → Bool → List ℕ → Option ℕ → Type 0

@@ -16,7 +16,7 @@ use Rattle.tree_faults.specs.Refusals.{IsFaultFor}
 use Rattle.cert_goals.specs.declared.fault.GoalWhy.{GoalWhy}
 use Rattle.cert_goals.specs.declared.fault.GoalWhy.TheVariants.{Layers, Set, Node}
 use Rattle.cert_goals.specs.SomeLayers.{layered}
-use Rattle.cert_goals.specs.SetFaults.{AreGoodSets, AreBadBy}
+use Rattle.cert_sets.specs.SetFaults.{AreGoodSets, AreBadBy}
 
 -- the numbers of the moves that the goal's layers list
 abbrev pub moves_of_goal : Goal → List ℕ

@@ -5,7 +5,7 @@ ghost use Rattle.pop_net.specs.FirstFault.{first_below};
 ghost use Rattle.pop_net.specs.LeafModel.{IsLeaf, IsMoveBelow};
 ghost use Rattle.cert_layers.specs.Search.{some_move};
 ghost use Rattle.goal_sets.specs.Stays.{takes_within, leads_out, escapes};
-ghost use Rattle.cert_goals.specs.SetTests.{is_silent_move, is_unguarded};
+ghost use Rattle.cert_sets.specs.SetTests.{is_silent_move, is_unguarded};
 
 use cert_traps::StateSet;
 use pop_io::NoMemory;

@@ -2,8 +2,8 @@
 
 ghost use Rattle.std.specs.Prelude.{MatchBool};
 ghost use Rattle.pop_net.specs.LeafModel.{IsLeaf};
-ghost use Rattle.cert_goals.specs.SetFaults.{HasOutput};
-ghost use Rattle.cert_goals.specs.SetSearch.{FindsOther};
+ghost use Rattle.cert_sets.specs.SetFaults.{HasOutput};
+ghost use Rattle.cert_sets.specs.SetSearch.{FindsOther};
 
 use pop_net::Leaf;
 

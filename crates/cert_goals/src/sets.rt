@@ -3,8 +3,8 @@
 ghost use Rattle.std.specs.Prelude.{All, OnOk};
 ghost use Rattle.pop_io.specs.Failures.{IfFault};
 ghost use Rattle.cert_base.specs.ValidLayers.{moves_of_layers};
-ghost use Rattle.cert_goals.specs.SetFaults.{AreSetsWithin, ChecksSets, HasOutput, IsGoodSet, IsBadBy};
-ghost use Rattle.cert_goals.specs.SetFaults.{AreGoodSets, AreBadBy};
+ghost use Rattle.cert_sets.specs.SetFaults.{AreSetsWithin, ChecksSets, HasOutput, IsGoodSet, IsBadBy};
+ghost use Rattle.cert_sets.specs.SetFaults.{AreGoodSets, AreBadBy};
 
 use crate::fault::SetFault;
 use crate::goal_moves::{GoalMoves, kept_leaf};

@@ -5,7 +5,7 @@ ghost use Rattle.pop_net.specs.FirstFault.{first_below};
 ghost use Rattle.pop_net.specs.LeafModel.{IsLeaf, IsMoveBelow, silent_move};
 ghost use Rattle.cert_layers.specs.Waking.{FindsFirst};
 ghost use Rattle.goal_sets.specs.Stays.{takes_within};
-ghost use Rattle.cert_goals.specs.SetTests.{is_silent_move, wakes_awake, wakes_one, FindsWoken};
+ghost use Rattle.cert_sets.specs.SetTests.{is_silent_move, wakes_awake, wakes_one, FindsWoken};
 
 use crate::escape::{is_between, is_silent_at};
 use crate::wake::{is_rest_in, may_wake, wakes};

@@ -5,8 +5,8 @@ ghost use Rattle.pop_net.specs.LeafModel.{IsLeaf};
 ghost use Rattle.pop_net.specs.Hushed.{hushed};
 ghost use Rattle.cert_base.specs.ValidLayers.{moves_of_layers};
 ghost use Rattle.goal_sets.specs.Stays.{escapes, SleepIn};
-ghost use Rattle.cert_goals.specs.SetTests.{FindsWoken};
-ghost use Rattle.cert_goals.specs.SetSearch.{FindsLeft, fault_of_woken};
+ghost use Rattle.cert_sets.specs.SetTests.{FindsWoken};
+ghost use Rattle.cert_sets.specs.SetSearch.{FindsLeft, fault_of_woken};
 
 use crate::escape::{escapes_of, first_unguarded};
 use crate::fault::SetFault;

@@ -9,7 +9,7 @@ ghost use Rattle.pop_net.specs.LeafModel.{IsLeaf, IsMoveBelow};
 ghost use Rattle.cert_base.specs.FactsAndCases.{can_meet_in};
 ghost use Rattle.cert_layers.specs.Waking.{brings_state, brings_two_states, wakes_with_state};
 ghost use Rattle.cert_layers.specs.Waking.{wakes_states, wakes_beside_state, may_wake_any};
-ghost use Rattle.cert_goals.specs.SetTests.{is_other_within, is_rest_within};
+ghost use Rattle.cert_sets.specs.SetTests.{is_other_within, is_rest_within};
 
 use cert_base::can_meet;
 use cert_traps::StateSet;

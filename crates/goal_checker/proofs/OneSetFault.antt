@@ -8,7 +8,7 @@ use Rattle.cert_layers.specs.LayerFaults.{Each, IsFirstFailing}
 use Rattle.cert_goals.specs.declared.fault.SetFault.{SetFault}
 use Rattle.cert_goals.specs.declared.fault.SetFault.TheVariants.{Output, Leaves, Wakes}
 use Rattle.goal_sets.specs.Stays.{escapes, SleepsFor, IsGuarded, IsGuardedAt, SleepIn}
-use Rattle.cert_goals.specs.SetFaults.{HasOutput, IsGoodSet, AreGoodSets, IsFirstOther, IsBadBy, AreBadBy}
+use Rattle.cert_sets.specs.SetFaults.{HasOutput, IsGoodSet, AreGoodSets, IsFirstOther, IsBadBy, AreBadBy}
 use Rattle.pop_checker.proofs.OneFault.{one_first}
 
 module _ (leaf : LeafModel) (moves : List ℕ) (value : Bool) where

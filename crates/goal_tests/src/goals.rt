@@ -2,7 +2,7 @@
 
 ghost use Rattle.std.specs.Prelude.{IfSome};
 ghost use Rattle.cert_layers.specs.LayerFaults.{AreLayersWithin};
-ghost use Rattle.cert_goals.specs.SetFaults.{AreSetsWithin};
+ghost use Rattle.cert_sets.specs.SetFaults.{AreSetsWithin};
 
 use cert_base::Layer;
 use cert_goals::{SetFault, check_sets, check_some_layers};

@@ -29,11 +29,11 @@ use Rattle.tool_bundles.specs.declared.bundle.AnyBundle.{AnyBundle}
 use Rattle.tool_bundles.specs.declared.bundle.AnyBundle.TheVariants.{Plain, Stable}
 use Rattle.tool_bundles.specs.StableBundles.{IsAnyBegunBy}
 use Rattle.tool_checks.specs.Judged.{IsAnyJudged}
-use Rattle.tool_runs.specs.Course.{Course, course_of}
+use Rattle.tool_courses.specs.Course.{Course, course_of}
 use Rattle.tool_bundles.proofs.Begun.{begun_two, begun_few}
 use Rattle.tool_bundles.proofs.InputSize.{length-input_crowd}
-use Rattle.tool_runs.proofs.ProvedBundles.{course_net}
-use Rattle.tool_runs.proofs.Ran.{run_reaches, run_tuples}
+use Rattle.tool_courses.proofs.ProvedBundles.{course_net}
+use Rattle.tool_courses.proofs.Ran.{run_reaches, run_tuples}
 use Rattle.pop_tool.specs.Runs.{IsLastLine}
 use Rattle.pop_tool.proofs.BundleInput.{plain_input, any_counts, file_computes}
 use Rattle.pop_tool.proofs.LastLine.{is_last, only_last}

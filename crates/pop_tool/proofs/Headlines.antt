@@ -24,7 +24,7 @@ use Rattle.tool_proofs.specs.Check.{certified_text, stable_text}
 use Rattle.goal_json.specs.declared.bundle.StableBundle.{StableBundle}
 use Rattle.pop_tool.specs.StableHeadline.{IsStableLine, StableSays, IsValidStableLine, SettledSays, StableRunSays, IsStableHeldInput}
 use Rattle.pop_tool.proofs.StableHeadline.{stable_says, stable_only}
-use Rattle.tool_runs.specs.Replay.{holds_text, holds_output}
+use Rattle.tool_replays.specs.Replay.{holds_text, holds_output}
 use Rattle.pop_tool.specs.Answer.{InputGives, Answer}
 use Rattle.pop_tool.specs.Outcome.{HasLeft, Wrote, Outcome}
 use Rattle.comp_net.specs.declared.choice.LeafChoice.TheVariants as leaves

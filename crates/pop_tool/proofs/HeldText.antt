@@ -24,9 +24,9 @@ use Rattle.tool_bundles.specs.declared.bundle.AnyBundle.{AnyBundle}
 use Rattle.tool_bundles.specs.declared.bundle.AnyBundle.TheVariants.{Plain, Stable}
 use Rattle.tool_bundles.specs.StableBundles.{IsAnyBegunBy}
 use Rattle.tool_checks.specs.Judged.{IsAnyJudged}
-use Rattle.tool_runs.specs.Course.{Course, course_of}
-use Rattle.tool_runs.specs.declared.replay.TheConstants.{JOURNAL_LINE}
-use Rattle.tool_runs.specs.Replay.{journal_read}
+use Rattle.tool_courses.specs.Course.{Course, course_of}
+use Rattle.tool_replays.specs.declared.replay.TheConstants.{JOURNAL_LINE}
+use Rattle.tool_replays.specs.Replay.{journal_read}
 use Rattle.pop_io.specs.declared.whole.TheConstants.{INPUT_LIMIT}
 use Rattle.pop_tool.specs.Runs.{IsLastLine, IsAllowedRun}
 use Rattle.pop_tool.specs.Headline.{IsHeldInput}

@@ -31,12 +31,12 @@ use Rattle.tool_texts.specs.Lines.{two_and_some}
 use Rattle.tool_texts.specs.Differences.{difference_text}
 use Rattle.tool_texts.specs.Refusals.{refusal_text, output_for}
 use Rattle.tool_checks.specs.Rejections.{stable_rejected_text}
-use Rattle.tool_runs.specs.declared.replay.TheConstants.{JOURNAL_LINE}
+use Rattle.tool_replays.specs.declared.replay.TheConstants.{JOURNAL_LINE}
 use Rattle.tool_bundles.specs.declared.bundle.AnyBundle.{AnyBundle}
 use Rattle.tool_bundles.specs.StableBundles.{IsAnyBegunBy}
 use Rattle.tool_checks.specs.Judged.{IsAnyJudged}
-use Rattle.tool_runs.specs.Course.{Course, course_of}
-use Rattle.tool_runs.specs.Replay.{holds_text, holds_output, journal_read, compared_output, journal_output, replay_output, judged_output, OfBegun, OfLines, ReplayGives}
+use Rattle.tool_courses.specs.Course.{Course, course_of}
+use Rattle.tool_replays.specs.Replay.{holds_text, holds_output, journal_read, compared_output, journal_output, replay_output, judged_output, OfBegun, OfLines, ReplayGives}
 use Rattle.tool_checks.proofs.OneJudged.{one_any_judged}
 use Rattle.tool_bundles.proofs.OneBundle.{one_any_begin}
 use Rattle.pop_tool.specs.Answer.{InputGives}

@@ -36,9 +36,10 @@ use Rattle.tool_bundles.specs.declared.bundle.AnyBundle.{AnyBundle}
 use Rattle.tool_bundles.specs.declared.bundle.AnyBundle.TheVariants.{Plain, Stable}
 use Rattle.tool_bundles.specs.StableBundles.{IsAnyBegunBy}
 use Rattle.tool_checks.specs.Judged.{IsAnyJudged}
-use Rattle.tool_runs.specs.Course.{course_of}
+use Rattle.tool_courses.specs.Course.{course_of}
 use Rattle.tool_bundles.specs.LastPair.{IsLast}
-use Rattle.tool_runs.specs.Run.{journal_end, run_ending, IsRunOutput, OfJudged, OfBegun, OfLines, RunGives}
+use Rattle.tool_courses.specs.RunOutput.{journal_end, run_ending, IsRunOutput}
+use Rattle.tool_runs.specs.Run.{OfJudged, OfBegun, OfLines, RunGives}
 use Rattle.pop_tool.specs.Answer.{InputGives}
 use Rattle.pop_tool.specs.Runs.{IsLastLine}
 use Rattle.pop_tool.specs.StableHeadline.{HasValidGoals, StableRunSays}

@@ -29,10 +29,10 @@ use Rattle.pop_journal.proofs.Written.{written_is_held_until}
 use Rattle.tool_texts.specs.declared.output.Output.{Output}
 use Rattle.tool_texts.specs.Statuses.{status_of}
 use Rattle.tool_texts.specs.Refusals.{output_for}
-use Rattle.tool_runs.specs.declared.replay.TheConstants.{JOURNAL_LINE}
-use Rattle.tool_runs.specs.Course.{Course, course_of}
-use Rattle.tool_runs.specs.Run.{journal_end}
-use Rattle.tool_runs.specs.Replay.{journal_read}
+use Rattle.tool_replays.specs.declared.replay.TheConstants.{JOURNAL_LINE}
+use Rattle.tool_courses.specs.Course.{Course, course_of}
+use Rattle.tool_courses.specs.RunOutput.{journal_end}
+use Rattle.tool_replays.specs.Replay.{journal_read}
 use Rattle.pop_tool.specs.Headline.{WasRun}
 use Rattle.pop_tool.specs.ReplayHeld.{replay_words, IsReplayHeld}
 use Rattle.pop_tool.proofs.Replies.{given_for}

@@ -39,7 +39,7 @@ use Rattle.tool_texts.specs.Json.{HasValue}
 use Rattle.tool_bundles.specs.Start.{fitting_in}
 use Rattle.tool_proofs.specs.Check.{certified_text, stable_text}
 use Rattle.tool_proofs.specs.Show.{shown_text}
-use Rattle.tool_runs.specs.Replay.{holds_text}
+use Rattle.tool_replays.specs.Replay.{holds_text}
 use Rattle.comp_net.specs.declared.choice.LeafChoice.{LeafChoice}
 use Rattle.comp_net.specs.declared.choice.LeafChoice.TheVariants as leaves
 use Rattle.tool_proofs.specs.Settle.{settle_text}

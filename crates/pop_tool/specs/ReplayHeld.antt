@@ -7,7 +7,7 @@ use Rattle.run_spec.specs.declared.spec.RunSpec.{RunSpec}
 use Rattle.pop_words.specs.Words.{meaning_of, run_command}
 use Rattle.tool_texts.specs.declared.output.Output.{Output}
 use Rattle.tool_texts.specs.Statuses.{status_of}
-use Rattle.tool_runs.specs.Replay.{holds_output}
+use Rattle.tool_replays.specs.Replay.{holds_output}
 use Rattle.pop_tool.specs.Answer.{Answer}
 use Rattle.pop_tool.specs.Headline.{WasRun}
 

@@ -1,13 +1,15 @@
 //! From what is prepared to its output.
 
 ghost use Rattle.std.specs.Prelude.{IfOk};
-ghost use Rattle.tool_runs.specs.Prepared.{CanBeMade, IsOutputOf, NeedsNoThreads};
+ghost use Rattle.tool_courses.specs.Prepared.{CanBeMade, IsOutputOf, NeedsNoThreads};
 
 use pop_io::{Gate, NoMemory};
 use std::alloc::Global;
 use std::sync::Wait;
 use std::thread::Threads;
-use tool_runs::{Prepared, make_alone, make_demo, make_on_threads};
+use tool_courses::Prepared;
+use tool_demos::make_demo;
+use tool_runs::{make_alone, make_on_threads};
 use tool_texts::Output;
 
 /// Makes what needs no threads. It waits for nobody.

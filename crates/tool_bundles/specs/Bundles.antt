@@ -1,4 +1,4 @@
--- The bundle of a line, and the limits that the check of its proof needs.
+-- The bundle of a line, and the limits that the check needs.
 use Rattle.std.specs.Prelude.{◌≡◌, ℕ, List, length, Option, Some, None, Result, Err}
 use Rattle.serde_json.specs.Data.{Data}
 use Rattle.cert_base.specs.ProofLimits.{IsProofWithin}

@@ -1,4 +1,4 @@
--- The bundle of a line whose leaves may have goals, how its net starts, and the limits that the check of its proof needs.
+-- The bundle of a line whose leaves may have goals, how its net starts, and the limits that the check needs.
 use Rattle.std.specs.Prelude.{◌≡◌, ℕ, List, length, Option, Some, None, Result, Ok, Err, if◌then◌else◌}
 use Rattle.serde_json.specs.Data.{Data}
 use Rattle.pop_net.specs.NetModel.{NetModel}

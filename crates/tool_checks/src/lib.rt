@@ -1,6 +1,6 @@
 //! What a command says of a bundle's proof: its check, and the line of a rejection.
 //! It stands on `tool_bundles`, which reads bundles, and on the checks of proofs, `pop_checker` and `goal_checker`.
-//! The layer above uses: a proof is valid, or its first part that fails is told in exactly the line that `specs` defines.
+//! The layer above uses: a proof is valid, or its first part that fails is told in the line that `specs` defines.
 #![tactic(auto)]
 
 mod bundle;

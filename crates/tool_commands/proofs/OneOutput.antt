@@ -11,9 +11,9 @@ use Rattle.tool_proofs.proofs.OnePlay.{one_play}
 use Rattle.tool_proofs.proofs.OneCheck.{one_check}
 use Rattle.tool_proofs.proofs.OneShow.{one_show}
 use Rattle.tool_runs.proofs.OneRun.{one_run}
-use Rattle.tool_runs.proofs.OneReplay.{one_replay}
+use Rattle.tool_replays.proofs.OneReplay.{one_replay}
 use Rattle.tool_proofs.proofs.OneSettle.{one_settle}
-use Rattle.tool_runs.proofs.OneDemo.{one_demo}
+use Rattle.tool_demos.proofs.OneDemo.{one_demo}
 
 pub one_given : (command : Command) → IsDetermined command → (lines : List (List ℕ)) (x y : Result Output Refusal) → CommandGives command lines x → CommandGives command lines y → x ≡ y
 one_given Play plain lines x y p q = one_play lines x y p q

@@ -13,13 +13,13 @@ use Rattle.tool_proofs.specs.Play.{PlayGives}
 use Rattle.tool_proofs.specs.Check.{CheckGives}
 use Rattle.tool_proofs.specs.Show.{ShowGives}
 use Rattle.tool_runs.specs.Run.{RunGives}
-use Rattle.tool_runs.specs.Replay.{ReplayGives}
+use Rattle.tool_replays.specs.Replay.{ReplayGives}
 use Rattle.comp_net.specs.declared.choice.LeafChoice.TheVariants as leaves
 use Rattle.tool_proofs.specs.Settle.{SettleGives}
 use Rattle.tool_proofs.specs.Compile.{CompileGives}
-use Rattle.tool_runs.specs.Demo.{DemoGives}
-use Rattle.tool_runs.specs.declared.prepared.Prepared.{Prepared}
-use Rattle.tool_runs.specs.declared.prepared.Prepared.TheVariants.{Text}
+use Rattle.tool_demos.specs.Demo.{DemoGives}
+use Rattle.tool_courses.specs.declared.prepared.Prepared.{Prepared}
+use Rattle.tool_courses.specs.declared.prepared.Prepared.TheVariants.{Text}
 
 -- what each gives for the lines of its input
 abbrev pub CommandGives : Command → List (List ℕ) → Result Output Refusal → Type 0

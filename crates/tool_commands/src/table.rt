@@ -3,15 +3,18 @@
 ghost use Rattle.std.specs.Prelude.{◌≡◌, ◌↔◌, ◌<◌, ◌^◌, length, IfOk, IsTrue};
 ghost use Rattle.pop_lines.specs.Lines.{lines_of};
 ghost use Rattle.pop_words.specs.Words.{HasLimits};
-ghost use Rattle.tool_runs.specs.Prepared.{Prepares, NeedsNoThreads};
+ghost use Rattle.tool_courses.specs.Prepared.{Prepares, NeedsNoThreads};
 ghost use Rattle.tool_commands.specs.Commands.{CommandGives, IsPlain, reads, ready};
 
 use comp_net::LeafChoice;
 use pop_words::Command;
 use run_spec::RunKind;
 use std::alloc::Global;
+use tool_courses::Prepared;
+use tool_demos::prepare_demo;
 use tool_proofs::{check_input, compile_input, eval_input, play_input, settle_input, show_input};
-use tool_runs::{Prepared, is_by_one, prepare_demo, prepare_run, replay_input};
+use tool_replays::replay_input;
+use tool_runs::{is_by_one, prepare_run};
 use tool_texts::{Output, Stop};
 
 /// What a command prepares for an input that isn't too long.

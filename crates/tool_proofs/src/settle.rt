@@ -21,7 +21,7 @@ use goal_settle::settle_goals;
 use pop_checker::{Checked, check};
 use pop_crowd::Crowd;
 use pop_io::{Failure, NoMemory};
-use pop_journal::{Last, push_last_line};
+use journal_text::{Last, push_last_line};
 use pop_lines::push_field;
 use pop_net::Net;
 use pop_settle::{SettleFault, Settled, Take};

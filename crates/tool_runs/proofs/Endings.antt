@@ -1,31 +1,16 @@
--- No command of runs ends by a fault of reading.
+-- A command that makes a run doesn't end by a fault of reading.
 use Rattle.std.proofs.Common.{ℕ, List, Option, Some, None, Result, Ok, sym, ap, subst, ◌∙◌}
-use Rattle.std.specs.Prelude.{◌≢◌, ◌+◌, length}
 use Rattle.run_spec.specs.declared.kind.RunKind.{RunKind}
 use Rattle.run_spec.specs.declared.spec.RunSpec.{RunSpec}
-use Rattle.pop_net.specs.InputCrowd.{input_crowd}
-use Rattle.pair_runs.specs.Run.{joined}
-use Rattle.pop_journal.specs.Form.{journal_in}
-use Rattle.journal_text.specs.Difference.{Difference}
-use Rattle.pop_journal.specs.Expected.{first_difference, journal_compared_until}
 use Rattle.goal_checker.specs.declared.fault.StableRejected.{StableRejected}
 use Rattle.tool_texts.specs.declared.refusal.Refusal.{Refusal}
 use Rattle.tool_texts.specs.declared.output.Output.{Output}
-use Rattle.tool_texts.specs.declared.output.Ending.TheVariants.{ReadFault}
-use Rattle.tool_texts.specs.Lines.{just_two, two_and_some}
-use Rattle.tool_texts.proofs.Goes.{bind_keeps, after_keeps}
+use Rattle.tool_texts.specs.Lines.{just_two}
+use Rattle.tool_texts.proofs.Goes.{after_keeps}
 use Rattle.tool_bundles.specs.declared.bundle.AnyBundle.{AnyBundle}
 use Rattle.tool_bundles.proofs.OtherEndings.{IsOther, refused}
-use Rattle.tool_runs.specs.Course.{course_of}
-use Rattle.tool_runs.specs.Run.{run_ending, OfJudged, OfLines as OfRunLines, RunGives}
-use Rattle.tool_runs.specs.declared.replay.TheConstants.{JOURNAL_LINE}
-use Rattle.tool_runs.specs.Replay.{journal_read, compared_output, journal_output, judged_output}
-use Rattle.tool_runs.specs.Replay.{OfBegun as OfReplayBegun, OfLines as OfReplayLines, ReplayGives}
-use Rattle.tool_runs.specs.Demo.{DemoGives}
-
-run_ending_other : (pair : Option (ℕ × ℕ)) → run_ending pair ≢ ReadFault
-run_ending_other None e = absurd cc
-run_ending_other (Some pair) e = absurd cc
+use Rattle.tool_courses.proofs.Endings.{run_ending_other}
+use Rattle.tool_runs.specs.Run.{OfJudged, OfLines, RunGives}
 
 judged_other : (kind : RunKind) (spec : RunSpec) (lines : List ℕ) (bundle : AnyBundle) (counts : List ℕ) (judged : Option StableRejected) (output : Output) → OfJudged kind spec lines bundle counts judged output → IsOther (Ok output)
 judged_other kind spec lines bundle counts None output is e = run_ending_other is.pair (sym is.ending ∙ e)
@@ -33,27 +18,6 @@ judged_other kind spec lines bundle counts (Some rejected) output is e = absurd 
 
 pub run_other : (kind : RunKind) (spec : RunSpec) (lines : List (List ℕ)) (given : Result Output Refusal) → RunGives kind spec lines given → IsOther given
 run_other kind spec lines =
-    after_keeps IsOther refused (just_two lines) (OfRunLines kind spec)
+    after_keeps IsOther refused (just_two lines) (OfLines kind spec)
     (λ found given is. after_keeps IsOther refused is.0 _
     (λ begin given is. subst IsOther (sym is.4) (judged_other kind spec _ begin.0 begin.1 is.0 is.1 is.3)) given is.2)
-
-compared_other : (meetings : ℕ) (found : Option Difference) → IsOther (Ok (compared_output meetings found))
-compared_other meetings None e = absurd cc
-compared_other meetings (Some difference) e = absurd cc
-
-replay_judged_other : (kind : RunKind) (bundle : AnyBundle) (counts : List ℕ) (lines : List (List ℕ)) (judged : Option StableRejected) → IsOther (judged_output kind bundle counts lines judged)
-replay_judged_other kind bundle counts lines None =
-    let course = course_of bundle counts in
-    let start = input_crowd course.net counts in
-    bind_keeps IsOther refused (journal_read kind (journal_in kind (length start) JOURNAL_LINE lines)) (λ journal. Ok (journal_output course start journal))
-    (λ journal. compared_other (length (joined journal.rounds)) (first_difference (journal.first + 1) (journal_compared_until course.rest course.outcome course.net start journal)))
-replay_judged_other kind bundle counts lines (Some rejected) = λ e. absurd cc
-
-pub replay_other : (kind : RunKind) (lines : List (List ℕ)) (given : Result Output Refusal) → ReplayGives kind lines given → IsOther given
-replay_other kind lines =
-    after_keeps IsOther refused (two_and_some lines) (OfReplayLines kind)
-    (λ found given is. after_keeps IsOther refused is.0 (OfReplayBegun kind found.2)
-    (λ begin given is. subst IsOther (sym is.2) (replay_judged_other kind begin.0 begin.1 found.2 is.0)) given is.2)
-
-pub demo_other : (number : ℕ) (given : Result Output Refusal) → DemoGives number given → IsOther given
-demo_other number given is = subst IsOther (sym is.2) (λ e. run_ending_other is.1.pair (sym is.1.ending ∙ e))

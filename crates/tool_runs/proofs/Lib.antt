@@ -1,11 +1,4 @@
-pub mod Ran
-pub mod Ends
-pub mod Made
-pub mod ProvedBundles
-pub mod Leads
-pub mod DemoCases
-pub mod Changed
+mod Ends
+mod Made
 pub mod Endings
 pub mod OneRun
-pub mod OneReplay
-pub mod OneDemo

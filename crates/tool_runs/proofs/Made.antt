@@ -17,12 +17,13 @@ use Rattle.pop_watch.specs.WrittenAlone.{IsWrittenRunUntil}
 use Rattle.pop_watch.specs.WatchedEnds.{IsWatchedRunFromUntil}
 use Rattle.pop_watch.specs.WrittenRuns.{IsRunOfKindUntil, IsWrittenRunOfUntil}
 use Rattle.tool_texts.specs.declared.output.Output.{Output}
-use Rattle.tool_runs.specs.declared.prepared.Setting.{Setting}
-use Rattle.tool_runs.specs.declared.prepared.PendingRun.{PendingRun}
+use Rattle.tool_courses.specs.declared.prepared.Setting.{Setting}
+use Rattle.tool_courses.specs.declared.prepared.PendingRun.{PendingRun}
 use Rattle.tool_bundles.specs.Start.{IsStart}
-use Rattle.tool_runs.specs.Course.{Course}
-use Rattle.tool_runs.specs.Prepared.{course_at, IsRunOnCourse, IsWrittenTo, IsOutputOfSetting, IsOutputOfRun}
-use Rattle.tool_runs.proofs.Ends.{run_last, watched_last}
+use Rattle.tool_courses.specs.Course.{Course}
+use Rattle.tool_courses.specs.Prepared.{course_at, IsRunOnCourse, IsWrittenTo, IsOutputOfSetting, IsOutputOfRun}
+use Rattle.tool_courses.proofs.Ends.{run_last}
+use Rattle.tool_runs.proofs.Ends.{watched_last}
 
 module _ (course : Course) (counts : List ℕ) (spec : RunSpec) (crowd : List Word) (start : IsStart course.net (record { counts = counts; crowd = crowd })) where
   whole_run : (ran : RunEnd) → IsRunFromUntil course.rest course.net crowd spec ran → IsRunOnCourse Whole course counts spec ran

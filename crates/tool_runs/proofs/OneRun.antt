@@ -16,26 +16,22 @@ use Rattle.goal_settle.specs.Chosen.{proof_at}
 use Rattle.goal_settle.proofs.HushedLeaves.{hushed_length}
 use Rattle.tool_texts.specs.declared.refusal.Refusal.{Refusal}
 use Rattle.tool_texts.specs.declared.output.Output.{Output}
-use Rattle.tool_texts.specs.declared.output.Ending.{Ending}
 use Rattle.tool_texts.specs.Steps.{After}
 use Rattle.tool_texts.specs.Lines.{just_two}
 use Rattle.tool_texts.proofs.Goes.{one_after}
+use Rattle.tool_texts.proofs.SameOutput.{same_output}
 use Rattle.tool_bundles.specs.declared.bundle.AnyBundle.{AnyBundle}
 use Rattle.tool_bundles.specs.declared.bundle.AnyBundle.TheVariants.{Plain, Stable}
 use Rattle.tool_bundles.specs.LastPair.{IsLast}
 use Rattle.tool_bundles.specs.StableBundles.{net_of}
-use Rattle.tool_runs.specs.Course.{Course, course_of}
-use Rattle.tool_runs.specs.Run.{journal_end, run_ending, IsRunOutput, OfJudged, OfBegun, OfLines, RunGives}
+use Rattle.tool_courses.specs.Course.{Course, course_of}
+use Rattle.tool_courses.specs.RunOutput.{journal_end, run_ending, IsRunOutput}
+use Rattle.tool_runs.specs.Run.{OfJudged, OfBegun, OfLines, RunGives}
 use Rattle.tool_bundles.proofs.Begun.{begun_two}
-use Rattle.tool_runs.proofs.Ran.{run_tuples}
+use Rattle.tool_courses.proofs.Ran.{run_tuples}
 use Rattle.tool_bundles.proofs.OneLast.{one_last}
 use Rattle.tool_checks.proofs.OneJudged.{one_any_judged}
 use Rattle.tool_bundles.proofs.OneBundle.{one_any_begin}
-
-pub same_output : (x y : Output) → x.text ≡ y.text → x.ending ≡ y.ending → x ≡ y
-same_output x y text ending =
-    ap (λ (t : List ℕ). let o : Output = record { text = t; ending = x.ending } in o) text
-    ∙ ap (λ (e : Ending). let o : Output = record { text = y.text; ending = e } in o) ending
 
 module _ (spec : RunSpec) (alone : spec.workers ≡ 1) where
   module _ (lines : List ℕ) where

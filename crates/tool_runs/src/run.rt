@@ -7,17 +7,15 @@ ghost use Rattle.run_spec.specs.Kinds.{most_workers_of};
 ghost use Rattle.run_spec.specs.RunLimits.{IsWithinLimits};
 ghost use Rattle.tool_bundles.specs.Start.{IsStart};
 ghost use Rattle.tool_bundles.specs.StableBundles.{IsAnyBundleWithin, net_of};
-ghost use Rattle.tool_runs.specs.Proved.{proved_pred};
-ghost use Rattle.tool_runs.specs.Run.{journal_end, run_ending, open_pair, OfBegun, RunGives};
-ghost use Rattle.tool_runs.specs.Prepared.{CanRun, IsWrittenTo, IsOutputOfSetting, IsOutputOfRun};
-ghost use Rattle.tool_runs.specs.Prepared.{NeedsNoThreads, Prepares, IsPending};
+ghost use Rattle.tool_courses.specs.Proved.{proved_pred};
+ghost use Rattle.tool_runs.specs.Run.{OfBegun, RunGives};
+ghost use Rattle.tool_courses.specs.Prepared.{CanRun, IsWrittenTo, IsOutputOfSetting, IsOutputOfRun};
+ghost use Rattle.tool_courses.specs.Prepared.{NeedsNoThreads, Prepares, IsPending};
 
-use crate::prepared::{PendingRun, Prepared, Setting};
-use crate::proved::prove;
-use pair_workers::{End, RunContext};
+use pair_runs::{End, RunContext};
 use pop_crowd::Crowd;
 use pop_io::{Failure, Gate, List, NoMemory};
-use pop_journal::{Last, push_end};
+use journal_text::push_end;
 use pop_watch::{push_run, push_run_alone};
 use run_spec::{RunKind, RunSpec};
 use std::alloc::{AllocError, Global};
@@ -25,23 +23,14 @@ use std::sync::Wait;
 use std::thread::Threads;
 use tool_bundles::{AnyBundle, Start, begin_any};
 use tool_checks::stable_rejection_output;
-use tool_texts::{Ending, Output, Stop, just_two_lines};
+use tool_courses::{PendingRun, Prepared, Setting, last_and_ending, prove};
+use tool_texts::{Output, Stop, just_two_lines};
 
 /// Whether a run has one worker. A whole run by one worker is made without threads; any other run is made on threads.
 pub fn is_by_one(spec: &RunSpec) -> bool
     ensures { IsTrue result ↔ (spec.now.workers ≡ 1) }
 {
     spec.workers == 1
-}
-
-/// The journal's last line for the end of a run, given that of a run that leaves no pair, and how the command ends.
-pub(crate) fn last_and_ending(told: Last, end: End) -> (Last, Ending)
-    ensures { result ≡ (journal_end told (open_pair end), run_ending (open_pair end)) }
-{
-    match end {
-        End::Terminal => (told, Ending::Done),
-        End::Open(a, b) => (Last::Undecided(a, b), Ending::Undecided),
-    }
 }
 
 /// Two lines, each with its line feed.

@@ -1,6 +1,6 @@
 use Rattle.std.proofs.Common.{◌≡◌, ℕ, ◌<◌, Some}
 use Rattle.std.specs.Prelude.{slice_get}
-use Rattle.cert_goals.specs.SetFaults.{HasOutput}
+use Rattle.cert_sets.specs.SetFaults.{HasOutput}
 use Rattle.cert_goals.proofs.outputs.first_other.Given as goal
 
 abbrev pub invariant-loop-q : goal.invariant-loop-q

@@ -3,8 +3,8 @@ use Rattle.std.specs.Prelude.{Option}
 use Rattle.cert_base.specs.ValidLayers.{moves_of_layers}
 use Rattle.goal_sets.specs.Stays.{SleepIn}
 use Rattle.cert_goals.specs.declared.fault.SetFault.{SetFault}
-use Rattle.cert_goals.specs.SetFaults.{IsLeft}
-use Rattle.cert_goals.specs.SetSearch.{FindsLeft}
+use Rattle.cert_sets.specs.SetFaults.{IsLeft}
+use Rattle.cert_sets.specs.SetSearch.{FindsLeft}
 use Rattle.cert_goals.proofs.GoodSets.{left_bad}
 use Rattle.cert_goals.proofs.sets.check_stay.Goals as goal
 

@@ -1,6 +1,6 @@
 use Rattle.std.proofs.Common.{List, ℕ, subst}
 use Rattle.cert_base.specs.ValidLayers.{moves_of_layers}
-use Rattle.cert_goals.specs.SetFaults.{ChecksSets}
+use Rattle.cert_sets.specs.SetFaults.{ChecksSets}
 use Rattle.cert_goals.proofs.GoodSets.{checks_sets}
 use Rattle.cert_goals.proofs.sets.checked_sets.Goals as goal
 

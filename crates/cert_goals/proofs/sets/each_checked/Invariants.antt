@@ -1,7 +1,7 @@
 use Rattle.std.proofs.Common.{◌≡◌, ℕ, ◌<◌, List, Some}
 use Rattle.std.specs.Prelude.{slice_get}
 use Rattle.cert_base.specs.ValidLayers.{moves_of_layers}
-use Rattle.cert_goals.specs.SetFaults.{IsGoodSet}
+use Rattle.cert_sets.specs.SetFaults.{IsGoodSet}
 use Rattle.cert_goals.proofs.sets.each_checked.Given as goal
 
 abbrev pub invariant-loop-j : goal.invariant-loop-j

@@ -5,7 +5,7 @@ use Rattle.pop_net.specs.LeafModel.{IsMoveBelow, silent_move}
 use Rattle.pop_net.proofs.Quiet.{All-slice_get}
 use Rattle.pop_net.proofs.Within.{move_small}
 use Rattle.goal_sets.specs.Stays.{takes_within}
-use Rattle.cert_goals.specs.SetTests.{is_silent_move}
+use Rattle.cert_sets.specs.SetTests.{is_silent_move}
 use Rattle.cert_goals.proofs.Woken.{finds_none, finds_beside}
 use Rattle.cert_goals.proofs.sleep.woken_by.Goals as goal
 

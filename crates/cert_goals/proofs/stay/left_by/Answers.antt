@@ -5,8 +5,8 @@ use Rattle.pop_net.specs.FirstFault.{first_below}
 use Rattle.pop_hushed.proofs.Moves.{hushed_length}
 use Rattle.cert_base.specs.ValidLayers.{moves_of_layers}
 use Rattle.cert_goals.specs.declared.fault.SetFault.{SetFault}
-use Rattle.cert_goals.specs.SetSearch.{FindsLeft}
-use Rattle.cert_goals.specs.SetTests.{is_unguarded}
+use Rattle.cert_sets.specs.SetSearch.{FindsLeft}
+use Rattle.cert_sets.specs.SetTests.{is_unguarded}
 use Rattle.cert_goals.proofs.Guarded.{all_guarded, least_unguarded}
 use Rattle.cert_goals.proofs.GoodSets.{guarded_by}
 use Rattle.cert_goals.proofs.stay.left_by.Goals as goal

@@ -1,9 +1,10 @@
 use Rattle.std.proofs.Common.{Ok, Some, None, ◌++◌, refl, subst}
 use Rattle.pop_lines.specs.Lines.{ended}
-use Rattle.tool_runs.specs.Course.{Course}
-use Rattle.tool_runs.specs.Run.{IsRunOutput, OfBegun}
-use Rattle.tool_runs.proofs.Leads.{text_leads, pending_leads, pending_plain}
-use Rattle.tool_runs.proofs.ProvedBundles.{proved_start}
+use Rattle.tool_courses.specs.Course.{Course}
+use Rattle.tool_courses.specs.RunOutput.{IsRunOutput}
+use Rattle.tool_runs.specs.Run.{OfBegun}
+use Rattle.tool_courses.proofs.Leads.{text_leads, pending_leads, pending_plain}
+use Rattle.tool_courses.proofs.ProvedBundles.{proved_start}
 use Rattle.tool_runs.proofs.run.prepare_begun.Goals as goal
 
 pub returns-in-Ok-clause-leads : goal.returns-in-Ok-clause-leads

@@ -9,7 +9,7 @@ use Rattle.tool_texts.specs.Steps.{After, MayStop}
 use Rattle.tool_texts.proofs.Goes.{may_stop}
 use Rattle.tool_bundles.specs.StableBundles.{IsAnyBegunBy}
 use Rattle.tool_runs.specs.Run.{OfBegun, OfLines, RunGives}
-use Rattle.tool_runs.proofs.Leads.{prepares_wider}
+use Rattle.tool_courses.proofs.Leads.{prepares_wider}
 use Rattle.tool_runs.proofs.run.prepare_run.Goals as goal
 
 -- what is given for the two lines is given for the lines

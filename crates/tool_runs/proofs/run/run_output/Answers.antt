@@ -5,8 +5,8 @@ use Rattle.journal_text.specs.declared.last.Last.{Last}
 use Rattle.journal_text.proofs.Texts.{journal_ended}
 use Rattle.tool_texts.specs.declared.output.Ending.{Ending}
 use Rattle.tool_texts.specs.declared.output.Output.{Output}
-use Rattle.tool_runs.specs.Run.{open_pair}
-use Rattle.tool_runs.specs.Prepared.{course_at}
+use Rattle.tool_courses.specs.RunOutput.{open_pair}
+use Rattle.tool_courses.specs.Prepared.{course_at}
 use Rattle.tool_runs.proofs.run.run_output.Goals as goal
 
 pub push_end-requires : goal.push_end-requires

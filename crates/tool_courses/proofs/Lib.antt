@@ -1,0 +1,5 @@
+pub mod ProvedBundles
+pub mod Ran
+pub mod Ends
+pub mod Endings
+pub mod Leads

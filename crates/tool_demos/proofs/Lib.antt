@@ -1,0 +1,4 @@
+mod DemoCases
+mod Changed
+pub mod Endings
+pub mod OneDemo
