@@ -19,7 +19,7 @@ use Rattle.goal_sets.specs.Stays.{IsGuarded, SleepIn}
 use Rattle.goal_sets.specs.Reached.{IsDeadFor, IsGoalEnd, IsAtGoal}
 use Rattle.goal_sets.specs.ClosedGoal.{ComesToGoal}
 use Rattle.goal_sets.proofs.CrowdsStay.{dead_permuted, held_on, guarded_held, end_on, goal_permuted}
-use Rattle.cert_goals.specs.SomeLayers.{layered}
+use Rattle.cert_sets.specs.Layered.{layered}
 use Rattle.cert_sets.specs.SetFaults.{HasOutput, IsGoodSet, AreGoodSets}
 use Rattle.cert_goals.specs.GoalLaws.{GoalsHold}
 use Rattle.cert_goals.proofs.Ways.{way_of_leaf}

@@ -11,7 +11,8 @@ use Rattle.cert_base.specs.declared.layer.Layer.{Layer}
 use Rattle.cert_base.specs.ValidLayers.{moves_of_layers}
 use Rattle.cert_layers.specs.declared.fault.LayerWhy.{LayerWhy}
 use Rattle.cert_layers.specs.LayerFaults.{EndsWithin, ChecksLayers}
-use Rattle.cert_goals.specs.SomeLayers.{layered, ComesToNone, ChecksSomeLayers}
+use Rattle.cert_sets.specs.Layered.{layered}
+use Rattle.cert_goals.specs.SomeLayers.{ComesToNone, ChecksSomeLayers}
 
 pub way_of_leaf : (leaf : LeafModel) (moves before : List ℕ) (path : List (List ℕ)) (end : List ℕ) → Leads (LeafStep (hushed leaf moves)) before path end → Leads (LeafStep leaf) before path end
 way_of_leaf leaf moves before [] end way = way

@@ -13,7 +13,7 @@ use Rattle.cert_layers.specs.LayerFaults.{AreBrokenFirst}
 use Rattle.tree_faults.specs.Refusals.{IsFaultFor}
 use Rattle.cert_goals.specs.declared.fault.GoalWhy.{GoalWhy}
 use Rattle.cert_goals.specs.declared.fault.GoalWhy.TheVariants.{Layers, Set, Node as NodeFault}
-use Rattle.cert_goals.specs.SomeLayers.{layered}
+use Rattle.cert_sets.specs.Layered.{layered}
 use Rattle.cert_sets.specs.SetFaults.{AreGoodSets, AreBadBy}
 
 -- the fault is that of the layers

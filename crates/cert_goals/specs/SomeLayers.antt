@@ -4,16 +4,12 @@ use Rattle.pop_io.specs.declared.failure.Failure.{Failure}
 use Rattle.pop_net.specs.LeafModel.{LeafModel}
 use Rattle.pop_net.specs.Step.{LeafStep}
 use Rattle.pop_net.specs.Reachable.{ReachedWithin}
-use Rattle.pop_net.specs.Hushed.{hushed}
 use Rattle.pop_hushed.specs.Laws.{NoneCanTake}
 use Rattle.cert_base.specs.declared.layer.Layer.{Layer}
 use Rattle.cert_base.specs.ValidLayers.{moves_of_layers}
 use Rattle.cert_layers.specs.declared.fault.LayerWhy.{LayerWhy}
 use Rattle.cert_layers.specs.LayerFaults.{ChecksLayers}
-
--- the leaf in which the moves that the layers list are kept and all others are silent
-abbrev pub layered : LeafModel → List Layer → LeafModel
-layered leaf layers = hushed leaf (moves_of_layers layers)
+use Rattle.cert_sets.specs.Layered.{layered}
 
 -- from every crowd of at least two agents, at most k steps of the leaf for each agent lead to a crowd in which none of
 -- these moves is possible

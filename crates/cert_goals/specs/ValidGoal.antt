@@ -15,7 +15,7 @@ use Rattle.cert_layers.specs.LayerFaults.{AreBrokenFirst}
 use Rattle.tree_faults.specs.Refusals.{IsFaultFor}
 use Rattle.cert_goals.specs.declared.fault.GoalWhy.{GoalWhy}
 use Rattle.cert_goals.specs.declared.fault.GoalWhy.TheVariants.{Layers, Set, Node}
-use Rattle.cert_goals.specs.SomeLayers.{layered}
+use Rattle.cert_sets.specs.Layered.{layered}
 use Rattle.cert_sets.specs.SetFaults.{AreGoodSets, AreBadBy}
 
 -- the numbers of the moves that the goal's layers list

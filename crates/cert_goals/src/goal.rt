@@ -7,16 +7,15 @@ ghost use Rattle.cert_base.specs.ProofBound.{layers_bound};
 ghost use Rattle.cert_base.specs.ValidLayers.{moves_of_layers, ValidLayers};
 ghost use Rattle.cert_layers.specs.LayerFaults.{AreLayersWithin};
 ghost use Rattle.tree_faults.specs.Refusals.{AreNodesOf};
+ghost use Rattle.cert_sets.specs.Layered.{layered};
 ghost use Rattle.cert_sets.specs.SetFaults.{AreSetsWithin, AreGoodSets};
-ghost use Rattle.cert_goals.specs.SomeLayers.{layered};
 ghost use Rattle.cert_goals.specs.ValidGoal.{IsGoalOf, ChecksGoal};
 ghost use Rattle.cert_goals.specs.GoalParts.{IsLayersFault, IsSetsFault, NodesClose, IsNodesFault, ChecksRest};
 
 use crate::fault::GoalWhy;
-use crate::goal_moves::{GoalMoves, kept_leaf};
 use crate::layers::checked_layers;
-use crate::sets::checked_sets;
 use cert_base::{Goal, Node};
+use cert_sets::{GoalMoves, checked_sets, kept_leaf};
 use cert_tree::check_goal_tree;
 use pop_io::{Failure, List, NoMemory};
 use pop_net::Leaf;

@@ -3,9 +3,9 @@
 ghost use Rattle.cert_layers.specs.LayerFaults.{AreLayersWithin};
 ghost use Rattle.cert_goals.specs.SomeLayers.{ChecksSomeLayers};
 
-use crate::goal_moves::{GoalMoves, kept_leaf};
 use cert_base::Layer;
 use cert_layers::{LayerWhy, check_layers};
+use cert_sets::{GoalMoves, kept_leaf};
 use pop_io::{Failure, List};
 use pop_net::Leaf;
 use std::alloc::Global;

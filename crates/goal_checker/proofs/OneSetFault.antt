@@ -5,8 +5,8 @@ use Rattle.std.proofs.lemmas.Bool.{cases_lt}
 use Rattle.pop_net.proofs.Quiet.{All-slice_get}
 use Rattle.pop_net.specs.LeafModel.{LeafModel}
 use Rattle.cert_layers.specs.LayerFaults.{Each, IsFirstFailing}
-use Rattle.cert_goals.specs.declared.fault.SetFault.{SetFault}
-use Rattle.cert_goals.specs.declared.fault.SetFault.TheVariants.{Output, Leaves, Wakes}
+use Rattle.cert_sets.specs.declared.fault.SetFault.{SetFault}
+use Rattle.cert_sets.specs.declared.fault.SetFault.TheVariants.{Output, Leaves, Wakes}
 use Rattle.goal_sets.specs.Stays.{escapes, SleepsFor, IsGuarded, IsGuardedAt, SleepIn}
 use Rattle.cert_sets.specs.SetFaults.{HasOutput, IsGoodSet, AreGoodSets, IsFirstOther, IsBadBy, AreBadBy}
 use Rattle.pop_checker.proofs.OneFault.{one_first}

@@ -22,7 +22,7 @@ use Rattle.cert_base.specs.StableProof.{IsPartWithin}
 use Rattle.cert_base.specs.ValidLayers.{moves_of_layers, IsInLayer, ValidLayers}
 use Rattle.cert_layers.specs.LayerFaults.{IsWeight}
 use Rattle.cert_layers.proofs.NotLower.{contains-listed}
-use Rattle.cert_goals.specs.SomeLayers.{layered}
+use Rattle.cert_sets.specs.Layered.{layered}
 use Rattle.cert_goals.specs.ValidGoal.{ValidGoal}
 use Rattle.goal_checker.specs.ValidStable.{ValidPart}
 use Rattle.pop_settle.specs.Settling.{AreFewLayers, HasLayers}

@@ -14,7 +14,7 @@ use Rattle.list_laws.proofs.Options.{item_within, same_value}
 use Rattle.cert_base.specs.declared.proof.LeafProof.{LeafProof}
 use Rattle.cert_base.specs.declared.proof.Proof.{Proof}
 use Rattle.cert_base.specs.ValidLayers.{moves_of_layers}
-use Rattle.cert_goals.specs.SomeLayers.{layered}
+use Rattle.cert_sets.specs.Layered.{layered}
 use Rattle.goal_settle.specs.HushedNet.{hushed_leaves, hushed_net}
 
 -- ---- the leaves

@@ -24,7 +24,7 @@ use Rattle.cert_base.specs.ValidLayers.{moves_of_layers}
 use Rattle.cert_layers.proofs.Termination.{leads-append}
 use Rattle.goal_sets.specs.Reached.{IsDeadFor, IsAtGoal}
 use Rattle.cert_goals.specs.GoalLaws.{goal_for}
-use Rattle.cert_goals.specs.SomeLayers.{layered}
+use Rattle.cert_sets.specs.Layered.{layered}
 use Rattle.net_goals.specs.Kinds.{KindPart, for_value, IsAtRest}
 use Rattle.net_goals.specs.OutputStable.{IsOutputStable}
 use Rattle.net_goals.proofs.EitherKind.{rest_stable}

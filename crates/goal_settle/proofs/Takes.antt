@@ -8,7 +8,7 @@ use Rattle.pop_hushed.proofs.Moves.{hushed_move, kept_move}
 use Rattle.cert_base.specs.declared.proof.Proof.{Proof}
 use Rattle.cert_base.specs.ValidLayers.{moves_of_layers}
 use Rattle.cert_layers.proofs.NotLower.{contains-listed}
-use Rattle.cert_goals.specs.SomeLayers.{layered}
+use Rattle.cert_sets.specs.Layered.{layered}
 use Rattle.pop_settle.specs.declared.take.Take.{Take}
 use Rattle.pop_settle.specs.Settlement.{CanTake, IsNext, crowd_after_take, LeadsBy, IsSettlement}
 use Rattle.goal_settle.specs.HushedNet.{hushed_net}

@@ -4,7 +4,7 @@ use Rattle.pop_net.specs.LeafModel.{LeafModel}
 use Rattle.pop_net.specs.NetModel.{NetModel}
 use Rattle.cert_base.specs.declared.proof.LeafProof.{LeafProof}
 use Rattle.cert_base.specs.declared.proof.Proof.{Proof}
-use Rattle.cert_goals.specs.SomeLayers.{layered}
+use Rattle.cert_sets.specs.Layered.{layered}
 
 abbrev pub hushed_leaves : List LeafModel → List LeafProof → List LeafModel
 hushed_leaves [] parts = []

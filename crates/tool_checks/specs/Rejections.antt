@@ -8,8 +8,8 @@ use Rattle.tree_faults.specs.declared.fault.TreeWhy.TheVariants.{Missing, TooDee
 use Rattle.tree_faults.specs.declared.fault.TreeWhy.TheVariants.{NotOpen, NotClosed, TooManyFacts, Rest}
 use Rattle.pop_checker.specs.declared.fault.Rejected.{Rejected}
 use Rattle.pop_checker.specs.declared.fault.Rejected.TheVariants.{Layers, Tree, Predicate}
-use Rattle.cert_goals.specs.declared.fault.SetFault.{SetFault}
-use Rattle.cert_goals.specs.declared.fault.SetFault.TheVariants.{Output as HasOutput, Leaves, Wakes as WakesMove}
+use Rattle.cert_sets.specs.declared.fault.SetFault.{SetFault}
+use Rattle.cert_sets.specs.declared.fault.SetFault.TheVariants.{Output as HasOutput, Leaves, Wakes as WakesMove}
 use Rattle.cert_goals.specs.declared.fault.GoalWhy.{GoalWhy}
 use Rattle.cert_goals.specs.declared.fault.GoalWhy.TheVariants.{Layers as OfLayers, Set, Node}
 use Rattle.goal_checker.specs.declared.fault.StableRejected.{StableRejected}

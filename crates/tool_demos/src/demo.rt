@@ -16,12 +16,12 @@ ghost use Rattle.tool_demos.specs.Demo.{DemoGives, IsBuiltNet, IsRunOfCase};
 
 use cert_base::Proof;
 use comp_net::compile;
+use journal_text::{Last, push_last_line};
 use pair_runs::{RunEnd, run_alone};
 use pop_checker::{Checked, check};
 use pop_crowd::{Crowd, CrowdFault, Meeting};
 use pop_demo::{demo_case, demo_names, demo_run};
 use pop_io::{Failure, Gate, List, NoMemory};
-use journal_text::{Last, push_last_line};
 use pop_lines::push_number;
 use pop_net::Net;
 use pres_ast::Pred;

@@ -12,10 +12,10 @@ ghost use Rattle.tool_runs.specs.Run.{OfBegun, RunGives};
 ghost use Rattle.tool_courses.specs.Prepared.{CanRun, IsWrittenTo, IsOutputOfSetting, IsOutputOfRun};
 ghost use Rattle.tool_courses.specs.Prepared.{NeedsNoThreads, Prepares, IsPending};
 
+use journal_text::push_end;
 use pair_runs::{End, RunContext};
 use pop_crowd::Crowd;
 use pop_io::{Failure, Gate, List, NoMemory};
-use journal_text::push_end;
 use pop_watch::{push_run, push_run_alone};
 use run_spec::{RunKind, RunSpec};
 use std::alloc::{AllocError, Global};

@@ -1,0 +1,4 @@
+pub mod Awake
+mod Guarded
+mod GoodSets
+pub mod Woken

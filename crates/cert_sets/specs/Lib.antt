@@ -1,0 +1,4 @@
+pub mod Layered
+pub mod SetFaults
+pub mod SetSearch
+pub mod SetTests
