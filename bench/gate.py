@@ -2,14 +2,15 @@
 """Runs the merge gate from nothing in a clone, and prints the processor minutes of each crate's proofs, tests and
 edits, and those of the seed of its edits: the check of the crate as it stands with which they begin.
 
-Run from the top of the repository: bench/gate.py [FOLDER [COMMIT]], or bench/gate.py --from LOG..
+Run from the top of the repository: bench/gate.py [--kept] [FOLDER [COMMIT]], or bench/gate.py --from LOG..
 
 The clone is made in FOLDER, or in a new temporary folder. `rt ci --anew` proves and tries all, whatever earlier runs
-kept. With a COMMIT it is that one's gate, so that an earlier gate and this one can be measured on one machine;
-nothing is written then. Without one what is printed of a gate that passed goes into bench/results/gate.txt too, and
-the table of docs/develop/proving.md is made of it. --from does both with what earlier runs printed; a later run's
-rows take the place of an earlier one's. A second table compares it with bench/results/gate_before.txt, the last gate
-before the crates were cut anew. A process counts for the crate that its command line names. Times are read twice a
+kept; with --kept it is `rt ci`, which does only what no earlier run has done. With a COMMIT it is that one's gate, so
+that an earlier gate and this one can be measured on one machine; nothing is written then. Without one what is printed
+of a gate that passed goes into bench/results/gate.txt too, and the table of docs/develop/proving.md is made of it.
+--from does both with what runs printed, the earliest first, ended ones among them: for each crate and kind of work
+the last run counts that did it. A second table compares it with bench/results/gate_before.txt, the last gate before
+the crates were cut anew. A process counts for the crate that its command line names. Times are read twice a
 second, so the last half second of each process is missing; what a process took that names no crate stands in the last
 line.
 
@@ -231,22 +232,28 @@ def compared(lines: list[str], before: list[str]) -> list[str]:
     """A table with the sums of two gates, and a sentence with the longest chain of the first."""
     columns: list[list[str]] = []
     chains: list[tuple[float, list[str]]] = []
+    speeds: list[float] = []
     for gate in (before, lines):
         rows, told = read_log(gate)
         commit = told["commit"]
         chains.append(longest_chain(rows, uses(commit)))
         sums = {kind: sum(row[kind] for row in rows.values()) for kind in [*KINDS, "tried"]}
         gauge = [float(word) for word in told.get(GAUGE_CRATE, "").split() if word.isdigit()]
+        speeds.append(sum(gauge) / len(gauge) if gauge else 0.0)
+        slower = speeds[-1] / speeds[0] if speeds[0] and speeds[-1] else 1.0
         columns.append(
             [
                 f"{sum(name != 'none' for name in rows)}",
                 *(f"{sums[kind]:.0f}" for kind in ("proofs", "tests", "seeds", "edits", "tried")),
                 f"{sum(sums[kind] for kind in KINDS):.0f}",
                 f"{chains[-1][0]:.1f}",
-                f"{sum(gauge) / len(gauge):.0f} s" if gauge else "",
+                f"{sum(sums[kind] for kind in KINDS) / slower:.0f}",
+                f"{chains[-1][0] / slower:.1f}",
+                f"{speeds[-1]:.0f} s" if gauge else "",
             ]
         )
     names = ["Crates", "Proofs", "Tests", "Seeds", "Edits", "Number of edits", "All", "Longest chain"]
+    names += ["All, at the first one's speed", "Longest chain, at that speed"]
     names.append(f"`{GAUGE_CRATE}` of {GAUGE_COMMIT}")
     titles = [read_log(gate)[1]["commit"] for gate in (before, lines)]
     out = [f"| Processor minutes | {titles[0]} | {titles[1]} |", "|---|---|---|"]
@@ -255,18 +262,30 @@ def compared(lines: list[str], before: list[str]) -> list[str]:
     return [*out, "", *textwrap.wrap(sentence, 120)]
 
 
+def joined(earlier: Minutes, later: Minutes) -> Minutes:
+    """Two rows of a crate: of each kind of work the minutes of the later run, where it did any."""
+    done = {kind: later[kind] if later[kind] > LEAST else earlier[kind] for kind in KINDS}
+    return {**done, "tried": later["tried"]}
+
+
 def merged(logs: list[list[str]]) -> list[str]:
-    """The first log with the rows of later ones in the place of its own, where a later gate proved the crate anew."""
-    lines = list(logs[0])
-    for later in logs[1:]:
-        proved, _ = read_log(later)
-        rows = {line.split()[0]: line for line in later if line.split() and line.split()[0] in proved}
-        rows = {name: line for name, line in rows.items() if name != "none" and proved[name]["proofs"] > LEAST}
-        lines = [rows.pop(line.split()[0], line) if line.split() else line for line in lines]
-        place = next(at for at, line in enumerate(lines) if line.startswith("none "))
-        lines[place:place] = list(rows.values())
-        lines[0] = next(line for line in later if line.startswith("commit "))
-    return lines
+    """One log of several, the earliest first. It has the crates, the commit and the time of the last one, and the
+    gauge of all."""
+    rows: dict[str, Minutes] = {}
+    gauge: list[str] = []
+    for lines in logs:
+        found, told = read_log(lines)
+        gauge += [word for word in told.get(GAUGE_CRATE, "").split() if word.isdigit()]
+        rows.update({name: joined(rows.get(name, row), row) for name, row in found.items()})
+    last = logs[-1]
+    known = {*order(), "none"}
+    out = [line for line in last if line.split() and line.split()[0] in ("commit", "toolchain", "machine", "date")]
+    out.append(next(line for line in last if line.startswith("crate ")))
+    for name, row in sorted(rows.items(), key=lambda item: -sum(item[1][kind] for kind in KINDS)):
+        if name in known:
+            out.append(f"{name:20}" + "".join(f"{row[kind]:10.1f}" for kind in KINDS) + f"{row['tried']:10.0f}")
+    out.append(f"{GAUGE_CRATE} of {GAUGE_COMMIT} by one job: {' '.join(gauge)} seconds")
+    return [*out, next(line for line in last if line.startswith("wall clock"))]
 
 
 def keep(lines: list[str]) -> None:
@@ -280,6 +299,8 @@ def keep(lines: list[str]) -> None:
 def measure(words: list[str]) -> tuple[list[str], int]:
     """Runs a gate; its lines and its status."""
     top = TOP
+    kept = words[:1] == ["--kept"]
+    words = words[1:] if kept else words
     folder = words[0] if words else tempfile.mkdtemp()
     subprocess.run(["git", "clone", "-q", str(top), folder], check=True)
     commit = words[1] if len(words) > 1 else first_line(["git", "rev-parse", "--short", "HEAD"])
@@ -287,7 +308,7 @@ def measure(words: list[str]) -> tuple[list[str], int]:
         subprocess.run(["git", "checkout", "-q", commit], cwd=folder, check=True)
     gauge = Gauge(top, f"{folder}-gauge")
     start = time.time()
-    gate = subprocess.Popen(["rt", "ci", "--anew"], cwd=folder, stdout=sys.stderr)
+    gate = subprocess.Popen(["rt", "ci"] if kept else ["rt", "ci", "--anew"], cwd=folder, stdout=sys.stderr)
     seconds = watch(gate, gauge)
     gauge_seconds = " ".join(f"{taken:.0f}" for taken in gauge.seconds)
     lines = [
@@ -305,7 +326,7 @@ def main() -> int:
         return 0
     lines, status = measure(sys.argv[1:])
     print("\n".join(lines))
-    if len(sys.argv) < 3 and status == 0:
+    if len(sys.argv) < 3 and sys.argv[1:2] != ["--kept"] and status == 0:
         keep(lines)
     return status
 
