@@ -1,5 +1,5 @@
 //! Journals: written of a run that was kept, read, and compared with a run made anew.
-//! It stands on `pair_workers` and `journal_text`.
+//! It stands on `pair_runs` and `journal_text`.
 //! The layer above uses: `push_journal` adds `journal_text`, `read_journal` reads `journal_in`, `verify` tests `Holds`.
 #![tactic(auto)]
 

@@ -1,5 +1,5 @@
 //! The commands `run` and `watch`: what they prepare, as a text or as a run that is still to be made, and its making.
-//! It stands on `tool_courses`, and on the runs of `pair_workers` and `pop_watch` with their journals.
+//! It stands on `tool_courses`, and on the runs of `pair_runs` and `pop_watch`, which are written while they are made.
 //! The layer above uses: what is prepared can be made, and leads only to outputs that the definitions in `specs` allow.
 #![tactic(auto)]
 
