@@ -123,6 +123,7 @@ TOP_CRATES = (
     "tool_courses",
     "tool_replays",
     "tool_runs",
+    "tool_makers",
     "tool_demos",
     "tool_commands",
     "pop_tool",

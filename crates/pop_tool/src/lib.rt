@@ -1,5 +1,5 @@
 //! The top call: the words and the bytes that a source has left go in, a text goes to a sink, and a status comes back.
-//! It stands on `tool_commands`, and on `tool_runs` and `tool_demos`, which make what was prepared.
+//! It stands on `tool_commands`, and on `tool_makers` and `tool_demos`, which make what was prepared.
 //! The layer above uses: what the sink gains and the status are those of an answer of `specs/Answer.antt`.
 #![tactic(auto)]
 

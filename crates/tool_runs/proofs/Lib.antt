@@ -1,4 +1,2 @@
-mod Ends
-mod Made
 pub mod Endings
 pub mod OneRun

@@ -1,30 +1,23 @@
 //! The commands `run` and `watch`.
 
-ghost use Rattle.std.specs.Prelude.{◌≡◌, ◌≤◌, ◌↔◌, ◌++◌, ℕ, List as Items, length, IfOk, IsTrue};
+ghost use Rattle.std.specs.Prelude.{◌≡◌, ◌≤◌, ◌↔◌, ◌++◌, IfOk, IsTrue};
 ghost use Rattle.pop_lines.specs.Lines.{lines_of, ended};
 ghost use Rattle.run_spec.specs.declared.kind.RunKind.TheVariants.{Whole};
 ghost use Rattle.run_spec.specs.Kinds.{most_workers_of};
 ghost use Rattle.run_spec.specs.RunLimits.{IsWithinLimits};
 ghost use Rattle.tool_bundles.specs.Start.{IsStart};
 ghost use Rattle.tool_bundles.specs.StableBundles.{IsAnyBundleWithin, net_of};
-ghost use Rattle.tool_courses.specs.Proved.{proved_pred};
 ghost use Rattle.tool_runs.specs.Run.{OfBegun, RunGives};
-ghost use Rattle.tool_courses.specs.Prepared.{CanRun, IsWrittenTo, IsOutputOfSetting, IsOutputOfRun};
 ghost use Rattle.tool_courses.specs.Prepared.{NeedsNoThreads, Prepares, IsPending};
 
-use journal_text::push_end;
-use pair_runs::{End, RunContext};
 use pop_crowd::Crowd;
-use pop_io::{Failure, Gate, List, NoMemory};
-use pop_watch::{push_run, push_run_alone};
+use pop_io::{Failure, List};
 use run_spec::{RunKind, RunSpec};
 use std::alloc::{AllocError, Global};
-use std::sync::Wait;
-use std::thread::Threads;
 use tool_bundles::{AnyBundle, Start, begin_any};
 use tool_checks::stable_rejection_output;
-use tool_courses::{PendingRun, Prepared, Setting, last_and_ending, prove};
-use tool_texts::{Output, Stop, just_two_lines};
+use tool_courses::{PendingRun, Prepared, Setting, prove};
+use tool_texts::{Stop, just_two_lines};
 
 /// Whether a run has one worker. A whole run by one worker is made without threads; any other run is made on threads.
 pub fn is_by_one(spec: &RunSpec) -> bool
@@ -42,80 +35,6 @@ fn both_lines(alloc: Global, first: &[u8], second: &[u8]) -> Result<List<u8>, Al
     text.extend_from_slice(second)?;
     text.extend_from_slice(b"\n")?;
     Ok(List::from_vec(text))
-}
-
-/// The output of a run that was made to its end: the text with its last crowd and its last line added.
-fn run_output(
-    alloc: Global,
-    text: Vec<u8>,
-    setting: &Setting,
-    crowd: &Crowd,
-    end: End,
-) -> Result<Output, NoMemory>
-    requires variables { (proved_pred setting.now.proved).variables ≡ length setting.now.counts }
-    requires written { (lines : Items ℕ) × IsWrittenTo setting.now lines text.items crowd.now end }
-    ensures { IfOk result
-        (λ output. (lines : Items ℕ) → IsWrittenTo setting.now lines text.items crowd.now end
-        → IsOutputOfSetting setting.now lines output) }
-{
-    let mut text = text;
-    let told = setting.proved.last(setting.counts.as_slice());
-    let (last, ending) = last_and_ending(told, end);
-    push_end(alloc, &mut text, setting.proved.net(), crowd, last)?;
-    Ok(Output::new(text, ending))
-}
-
-/// Makes a whole run by one worker, and writes it while it runs. It waits for no thread.
-pub fn make_alone<G: Gate>(alloc: Global, run: PendingRun, gate: &G) -> Result<Output, NoMemory>
-    requires can { CanRun run }
-    requires alone { run.setting.spec.workers ≡ 1 }
-    requires kind { run.setting.kind ≡ Whole }
-    ensures { IfOk result (IsOutputOfRun run) }
-{
-    let PendingRun {
-        lines,
-        setting,
-        crowd,
-    } = run;
-    let (net, rest) = (setting.proved.net(), setting.proved.rest());
-    let spec = &setting.spec;
-    let context = RunContext {
-        net,
-        rest,
-        spec,
-        gate,
-    };
-    let text = lines.into_vec();
-    let (text, last_crowd, end) = push_run_alone(alloc, text, &context, crowd)?;
-    run_output(alloc, text, &setting, &last_crowd, end)
-}
-
-/// Makes a run by workers on threads, which may wait for one another, and writes it while it runs.
-pub fn make_on_threads<R: Threads + Wait + Sync, G: Gate>(
-    rt: &R,
-    alloc: Global,
-    run: PendingRun,
-    gate: &G,
-) -> Result<Output, NoMemory>
-    requires { CanRun run }
-    ensures { IfOk result (IsOutputOfRun run) }
-{
-    let PendingRun {
-        lines,
-        setting,
-        crowd,
-    } = run;
-    let (net, rest) = (setting.proved.net(), setting.proved.rest());
-    let spec = &setting.spec;
-    let context = RunContext {
-        net,
-        rest,
-        spec,
-        gate,
-    };
-    let text = lines.into_vec();
-    let (text, last_crowd, end) = push_run(rt, alloc, text, setting.kind, &context, crowd)?;
-    run_output(alloc, text, &setting, &last_crowd, end)
 }
 
 /// The run that is still to be made, alone or on threads.

@@ -1,5 +1,5 @@
-use Rattle.tool_runs.proofs.Made.{written_run, output_of}
-use Rattle.tool_runs.proofs.run.make_on_threads.Goals as goal
+use Rattle.tool_makers.proofs.Made.{written_run, output_of}
+use Rattle.tool_makers.proofs.run.make_on_threads.Goals as goal
 
 pub run_output-requires-clause-written : goal.run_output-requires-clause-written
 run_output-requires-clause-written g c =

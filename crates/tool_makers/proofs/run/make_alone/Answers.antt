@@ -1,5 +1,5 @@
-use Rattle.tool_runs.proofs.Made.{written_alone, output_of}
-use Rattle.tool_runs.proofs.run.make_alone.Goals as goal
+use Rattle.tool_makers.proofs.Made.{written_alone, output_of}
+use Rattle.tool_makers.proofs.run.make_alone.Goals as goal
 
 pub run_output-requires-clause-written : goal.run_output-requires-clause-written
 run_output-requires-clause-written g c =

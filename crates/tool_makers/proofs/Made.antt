@@ -23,7 +23,7 @@ use Rattle.tool_bundles.specs.Start.{IsStart}
 use Rattle.tool_courses.specs.Course.{Course}
 use Rattle.tool_courses.specs.Prepared.{course_at, IsRunOnCourse, IsWrittenTo, IsOutputOfSetting, IsOutputOfRun}
 use Rattle.tool_courses.proofs.Ends.{run_last}
-use Rattle.tool_runs.proofs.Ends.{watched_last}
+use Rattle.tool_makers.proofs.Ends.{watched_last}
 
 module _ (course : Course) (counts : List ℕ) (spec : RunSpec) (crowd : List Word) (start : IsStart course.net (record { counts = counts; crowd = crowd })) where
   whole_run : (ran : RunEnd) → IsRunFromUntil course.rest course.net crowd spec ran → IsRunOnCourse Whole course counts spec ran

@@ -7,7 +7,7 @@ use Rattle.tool_texts.specs.declared.output.Ending.{Ending}
 use Rattle.tool_texts.specs.declared.output.Output.{Output}
 use Rattle.tool_courses.specs.RunOutput.{open_pair}
 use Rattle.tool_courses.specs.Prepared.{course_at}
-use Rattle.tool_runs.proofs.run.run_output.Goals as goal
+use Rattle.tool_makers.proofs.run.run_output.Goals as goal
 
 pub push_end-requires : goal.push_end-requires
 push_end-requires c = rw c.net.ensures c.requires.written.1.run.valid
