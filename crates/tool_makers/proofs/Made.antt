@@ -18,10 +18,9 @@ use Rattle.pop_watch.specs.WatchedEnds.{IsWatchedRunFromUntil}
 use Rattle.pop_watch.specs.WrittenRuns.{IsRunOfKindUntil, IsWrittenRunOfUntil}
 use Rattle.tool_texts.specs.declared.output.Output.{Output}
 use Rattle.tool_courses.specs.declared.prepared.Setting.{Setting}
-use Rattle.tool_courses.specs.declared.prepared.PendingRun.{PendingRun}
 use Rattle.tool_bundles.specs.Start.{IsStart}
 use Rattle.tool_courses.specs.Course.{Course}
-use Rattle.tool_courses.specs.Prepared.{course_at, IsRunOnCourse, IsWrittenTo, IsOutputOfSetting, IsOutputOfRun}
+use Rattle.tool_courses.specs.Prepared.{course_at, IsRunOnCourse, IsWrittenTo, IsOutputOfSetting}
 use Rattle.tool_courses.proofs.Ends.{run_last}
 use Rattle.tool_makers.proofs.Ends.{watched_last}
 
@@ -67,7 +66,7 @@ module _ (setting : Setting) (crowd : List Word) (start : IsStart (course_at set
       })
 
 -- a run that was written to its end leads to its output
-pub output_of : {E : Type 0} (run : PendingRun) (r : Result Output E) (text : List ℕ) (last : List Word) (end : End) → IsWrittenTo run.setting run.lines text last end
-    → IfOk r (λ (output : Output). (lines : List ℕ) → IsWrittenTo run.setting lines text last end → IsOutputOfSetting run.setting lines output) → IfOk r (IsOutputOfRun run)
-output_of run (Ok output) text last end written each = each run.lines written
-output_of run (Err fault) text last end written each = tt
+pub output_of : {E : Type 0} (setting : Setting) (lines : List ℕ) (r : Result Output E) (text : List ℕ) (last : List Word) (end : End) → IsWrittenTo setting lines text last end
+    → IfOk r (λ (output : Output). (lines : List ℕ) → IsWrittenTo setting lines text last end → IsOutputOfSetting setting lines output) → IfOk r (IsOutputOfSetting setting lines)
+output_of setting lines (Ok output) text last end written each = each lines written
+output_of setting lines (Err fault) text last end written each = tt

@@ -8,7 +8,7 @@ ghost use Rattle.tool_courses.specs.Prepared.{CanRun, IsWrittenTo, IsOutputOfSet
 use journal_text::push_end;
 use pair_runs::{End, RunContext};
 use pop_crowd::Crowd;
-use pop_io::{Gate, NoMemory};
+use pop_io::{Gate, List, NoMemory};
 use pop_watch::{push_run, push_run_alone};
 use std::alloc::Global;
 use std::sync::Wait;
@@ -37,6 +37,32 @@ fn run_output(
     Ok(Output::new(text, ending))
 }
 
+/// The output of a whole run by one worker, made from the crowd in which its setting starts and written after these lines.
+fn alone_output<G: Gate>(
+    alloc: Global,
+    lines: List<u8>,
+    setting: &Setting,
+    crowd: Crowd,
+    gate: &G,
+) -> Result<Output, NoMemory>
+    requires can { CanRun (record { lines = lines; setting = setting.now; crowd = crowd }) }
+    requires alone { setting.now.spec.workers ≡ 1 }
+    requires kind { setting.now.kind ≡ Whole }
+    ensures { IfOk result (IsOutputOfSetting setting.now lines) }
+{
+    let (net, rest) = (setting.proved.net(), setting.proved.rest());
+    let spec = &setting.spec;
+    let context = RunContext {
+        net,
+        rest,
+        spec,
+        gate,
+    };
+    let text = lines.into_vec();
+    let (text, last_crowd, end) = push_run_alone(alloc, text, &context, crowd)?;
+    run_output(alloc, text, setting, &last_crowd, end)
+}
+
 /// Makes a whole run by one worker, and writes it while it runs. It waits for no thread.
 pub fn make_alone<G: Gate>(alloc: Global, run: PendingRun, gate: &G) -> Result<Output, NoMemory>
     requires can { CanRun run }
@@ -49,6 +75,22 @@ pub fn make_alone<G: Gate>(alloc: Global, run: PendingRun, gate: &G) -> Result<O
         setting,
         crowd,
     } = run;
+    alone_output(alloc, lines, &setting, crowd, gate)
+}
+
+/// The output of a run by workers on threads, made from the crowd in which its setting starts and written after these
+/// lines.
+fn threads_output<R: Threads + Wait + Sync, G: Gate>(
+    rt: &R,
+    alloc: Global,
+    lines: List<u8>,
+    setting: &Setting,
+    crowd: Crowd,
+    gate: &G,
+) -> Result<Output, NoMemory>
+    requires { CanRun (record { lines = lines; setting = setting.now; crowd = crowd }) }
+    ensures { IfOk result (IsOutputOfSetting setting.now lines) }
+{
     let (net, rest) = (setting.proved.net(), setting.proved.rest());
     let spec = &setting.spec;
     let context = RunContext {
@@ -58,8 +100,8 @@ pub fn make_alone<G: Gate>(alloc: Global, run: PendingRun, gate: &G) -> Result<O
         gate,
     };
     let text = lines.into_vec();
-    let (text, last_crowd, end) = push_run_alone(alloc, text, &context, crowd)?;
-    run_output(alloc, text, &setting, &last_crowd, end)
+    let (text, last_crowd, end) = push_run(rt, alloc, text, setting.kind, &context, crowd)?;
+    run_output(alloc, text, setting, &last_crowd, end)
 }
 
 /// Makes a run by workers on threads, which may wait for one another, and writes it while it runs.
@@ -77,15 +119,5 @@ pub fn make_on_threads<R: Threads + Wait + Sync, G: Gate>(
         setting,
         crowd,
     } = run;
-    let (net, rest) = (setting.proved.net(), setting.proved.rest());
-    let spec = &setting.spec;
-    let context = RunContext {
-        net,
-        rest,
-        spec,
-        gate,
-    };
-    let text = lines.into_vec();
-    let (text, last_crowd, end) = push_run(rt, alloc, text, setting.kind, &context, crowd)?;
-    run_output(alloc, text, &setting, &last_crowd, end)
+    threads_output(rt, alloc, lines, &setting, crowd, gate)
 }
