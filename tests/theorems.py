@@ -118,6 +118,7 @@ LIBRARY_ALONE = {"run_all", "run_watched", "write_journal", "push_journal", "run
 TOP_CRATES = (
     "tool_texts",
     "tool_bundles",
+    "tool_nets",
     "tool_checks",
     "tool_proofs",
     "tool_courses",

@@ -13,7 +13,7 @@ use Rattle.tool_texts.specs.declared.refusal.Refusal.TheVariants.{TooLong}
 use Rattle.tool_texts.specs.declared.output.Output.{Output}
 use Rattle.tool_texts.specs.declared.status.Status.TheVariants.{Done}
 use Rattle.tool_texts.specs.Statuses.{status_of}
-use Rattle.tool_proofs.specs.Compile.{CompileGives}
+use Rattle.tool_nets.specs.Compile.{CompileGives}
 use Rattle.pop_tool.specs.Answer.{InputGives}
 use Rattle.pop_tool.specs.Headline.{CheckSays, CompileSays}
 use Rattle.pop_tool.specs.CompileCertified.{compile_words, IsCompiledCertified}

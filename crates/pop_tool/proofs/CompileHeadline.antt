@@ -23,7 +23,7 @@ use Rattle.tool_texts.specs.Refusals.{output_for}
 use Rattle.tool_texts.specs.Lines.{just_two}
 use Rattle.tool_texts.specs.Steps.{◌>>=◌}
 use Rattle.tool_bundles.specs.Named.{named, understood}
-use Rattle.tool_proofs.specs.Compile.{bundle_line, IsCompiled, asked_by, fits_its_leaves, OfFitting, OfAsked, CompileGives}
+use Rattle.tool_nets.specs.Compile.{bundle_line, IsCompiled, asked_by, fits_its_leaves, OfFitting, OfAsked, CompileGives}
 use Rattle.pop_tool.specs.Headline.{IsBundleLine, IsAsked, CompileSays}
 use Rattle.tool_texts.proofs.Goes.{bind_ok, same_ok}
 use Rattle.pop_tool.proofs.RunHeadline.{two_lines}

@@ -8,7 +8,7 @@ use Rattle.comp_net.specs.declared.choice.LeafChoice.TheVariants.{Plain, Flocks,
 use Rattle.tool_texts.specs.declared.output.Output.{Output}
 use Rattle.tool_texts.specs.declared.status.Status.TheVariants.{Done}
 use Rattle.tool_texts.specs.Statuses.{status_of}
-use Rattle.tool_proofs.specs.Compile.{bundle_line}
+use Rattle.tool_nets.specs.Compile.{bundle_line}
 use Rattle.pop_tool.specs.Answer.{Answer}
 use Rattle.pop_tool.specs.Headline.{IsBundleLine, SaysCertified}
 

@@ -43,7 +43,7 @@ use Rattle.tool_replays.specs.Replay.{holds_text}
 use Rattle.comp_net.specs.declared.choice.LeafChoice.{LeafChoice}
 use Rattle.comp_net.specs.declared.choice.LeafChoice.TheVariants as leaves
 use Rattle.tool_proofs.specs.Settle.{settle_text}
-use Rattle.tool_proofs.specs.Compile.{bundle_line, IsCompiled}
+use Rattle.tool_nets.specs.Compile.{bundle_line, IsCompiled}
 use Rattle.pop_tool.specs.Outcome.{IsAnswered}
 use Rattle.pop_tool.specs.Runs.{IsLastLine, IsAllowedRun}
 use Rattle.pop_tool.specs.StableHeadline.{IsStableLine, StableSays, IsValidStableLine, SettledSays}

@@ -11,7 +11,8 @@ use Rattle.tool_texts.specs.declared.output.Output.{Output}
 use Rattle.tool_texts.specs.declared.output.Ending.TheVariants.{ReadFault}
 use Rattle.tool_texts.specs.Refusals.{output_for}
 use Rattle.tool_bundles.proofs.OtherEndings.{IsOther}
-use Rattle.tool_proofs.proofs.Endings.{eval_other, play_other, check_other, show_other, settle_other, compile_other}
+use Rattle.tool_nets.proofs.Endings.{eval_other, play_other, compile_other}
+use Rattle.tool_proofs.proofs.Endings.{check_other, show_other, settle_other}
 use Rattle.tool_runs.proofs.Endings.{run_other}
 use Rattle.tool_replays.proofs.Endings.{replay_other}
 use Rattle.tool_demos.proofs.Endings.{demo_other}

@@ -7,7 +7,7 @@ use Rattle.run_spec.specs.declared.kind.RunKind.TheVariants.{Whole, Watched}
 use Rattle.tool_texts.specs.declared.refusal.Refusal.{Refusal}
 use Rattle.tool_texts.specs.declared.output.Output.{Output}
 use Rattle.tool_commands.specs.Commands.{CommandGives, IsDetermined}
-use Rattle.tool_proofs.proofs.OnePlay.{one_play}
+use Rattle.tool_nets.proofs.OnePlay.{one_play}
 use Rattle.tool_proofs.proofs.OneCheck.{one_check}
 use Rattle.tool_proofs.proofs.OneShow.{one_show}
 use Rattle.tool_runs.proofs.OneRun.{one_run}

@@ -8,15 +8,15 @@ use Rattle.run_spec.specs.declared.kind.RunKind.TheVariants.{Whole, Watched}
 use Rattle.tool_texts.specs.declared.refusal.Refusal.{Refusal}
 use Rattle.tool_texts.specs.declared.output.Output.{Output}
 use Rattle.tool_texts.specs.Steps.{Stop}
-use Rattle.tool_proofs.specs.Eval.{eval_output}
-use Rattle.tool_proofs.specs.Play.{PlayGives}
+use Rattle.tool_nets.specs.Eval.{eval_output}
+use Rattle.tool_nets.specs.Play.{PlayGives}
 use Rattle.tool_proofs.specs.Check.{CheckGives}
 use Rattle.tool_proofs.specs.Show.{ShowGives}
 use Rattle.tool_runs.specs.Run.{RunGives}
 use Rattle.tool_replays.specs.Replay.{ReplayGives}
 use Rattle.comp_net.specs.declared.choice.LeafChoice.TheVariants as leaves
 use Rattle.tool_proofs.specs.Settle.{SettleGives}
-use Rattle.tool_proofs.specs.Compile.{CompileGives}
+use Rattle.tool_nets.specs.Compile.{CompileGives}
 use Rattle.tool_demos.specs.Demo.{DemoGives}
 use Rattle.tool_courses.specs.declared.prepared.Prepared.{Prepared}
 use Rattle.tool_courses.specs.declared.prepared.Prepared.TheVariants.{Text}

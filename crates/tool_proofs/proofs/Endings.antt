@@ -1,42 +1,23 @@
--- No command of predicates, nets and proofs ends by a fault of reading.
+-- No command of proofs ends by a fault of reading.
 use Rattle.std.proofs.Common.{◌≡◌, ℕ, Bool, true, false, nat_lt, List, Option, Some, None, Result, Ok, Err, sym, subst}
 use Rattle.std.specs.Prelude.{MatchBool}
-use Rattle.pop_words.specs.Vars.{vars_of}
 use Rattle.cert_json.specs.declared.bundle.Bundle.{Bundle}
 use Rattle.pop_checker.specs.declared.fault.Rejected.{Rejected}
 use Rattle.goal_json.specs.declared.bundle.StableBundle.{StableBundle}
 use Rattle.goal_checker.specs.declared.fault.StableRejected.{StableRejected}
-use Rattle.comp_net.specs.declared.choice.LeafChoice.{LeafChoice}
 use Rattle.pop_settle.specs.declared.limits.TheConstants.{TAKE_LIMIT}
 use Rattle.tool_texts.specs.declared.refusal.Refusal.{Refusal}
 use Rattle.tool_texts.specs.declared.refusal.Refusal.TheVariants.{Settle as Settled}
 use Rattle.tool_texts.specs.declared.output.Output.{Output}
-use Rattle.tool_texts.specs.Lines.{just_one, just_two, just_three, two_and_more}
-use Rattle.tool_texts.proofs.Goes.{bind_keeps, after_keeps}
-use Rattle.tool_bundles.specs.Named.{named}
+use Rattle.tool_texts.specs.Lines.{just_one, just_two}
+use Rattle.tool_texts.proofs.Goes.{after_keeps}
 use Rattle.tool_bundles.specs.declared.bundle.AnyBundle.{AnyBundle}
 use Rattle.tool_bundles.specs.declared.bundle.AnyBundle.TheVariants.{Plain, Stable}
 use Rattle.tool_bundles.proofs.OtherEndings.{IsOther, refused}
-use Rattle.tool_proofs.specs.Eval.{truth_in, eval_output}
-use Rattle.tool_proofs.specs.Play.{end_crowd, OfEnd, OfLines, PlayGives}
 use Rattle.tool_proofs.specs.Check.{judgement, stable_judgement, OfAnyBundle, OfLine, CheckGives}
 use Rattle.tool_proofs.specs.Show.{shown_or_rejected, OfBundle as OfShownBundle, OfLine as OfShownLine, ShowGives}
 use Rattle.tool_proofs.specs.Settle.{takes_allowed, IsSettled, OfJudged as OfSettleJudged, OfLines as OfSettleLines, SettleGives}
 use Rattle.tool_proofs.specs.Settle.{goal_takes_allowed, IsSettledByGoals, OfGoalsJudged, OfAnyBegun as OfAnySettled}
-use Rattle.tool_proofs.specs.Compile.{asked_by, fits_its_leaves, OfFitting, OfAsked, CompileGives}
-
-pub eval_other : (lines : List (List ℕ)) → IsOther (eval_output lines)
-unfolding eval_output
-eval_other lines =
-    bind_keeps IsOther refused (just_three lines) _
-    (λ three. bind_keeps IsOther refused (named (vars_of three.0)) _
-    (λ names. bind_keeps IsOther refused (truth_in names three.1 three.2) _
-    (λ truth e. absurd cc)))
-
-pub play_other : (lines : List (List ℕ)) (given : Result Output Refusal) → PlayGives lines given → IsOther given
-play_other lines =
-    after_keeps IsOther refused (two_and_more lines) OfLines
-    (λ found given is. after_keeps IsOther refused (end_crowd is.0 found.1 found.2) OfEnd (λ end given is. subst IsOther (sym is.2) (λ e. absurd cc)) given is.2)
 
 judgement_other : (bundle : Bundle) (judged : Option Rejected) → IsOther (Ok (judgement bundle judged))
 judgement_other bundle None e = absurd cc
@@ -88,8 +69,3 @@ pub settle_other : (lines : List (List ℕ)) (given : Result Output Refusal) →
 settle_other lines =
     after_keeps IsOther refused (just_two lines) OfSettleLines
     (λ found given is. after_keeps IsOther refused is.0 (λ begun. OfAnySettled begun.0 begun.1) (λ begin given is. settle_any_other begin.0 begin.1 given is) given is.2)
-
-pub compile_other : (choice : LeafChoice) (lines : List (List ℕ)) (given : Result Output Refusal) → CompileGives choice lines given → IsOther given
-compile_other choice lines =
-    after_keeps IsOther refused (asked_by lines) (OfAsked choice)
-    (λ found given is. after_keeps IsOther refused (fits_its_leaves choice found.1.tree) (OfFitting choice found.0 found.1) (λ fits given is. subst IsOther (sym is.2) (λ e. absurd cc)) given is)

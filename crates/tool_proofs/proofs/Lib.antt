@@ -1,11 +1,7 @@
-pub mod Played
-pub mod PlayEnds
-pub mod PlayTuples
 pub mod Settled
 pub mod Shown
 pub mod PlainLine
 pub mod Endings
-pub mod OnePlay
 pub mod OneCheck
 pub mod OneShow
 pub mod OneSettle

@@ -9,8 +9,8 @@ use Rattle.tool_texts.specs.Steps.{After}
 use Rattle.tool_texts.specs.Lines.{two_and_more}
 use Rattle.tool_texts.proofs.Goes.{one_after}
 use Rattle.tool_texts.proofs.OneValue.{one_value}
-use Rattle.tool_proofs.specs.Play.{end_crowd, play_output, OfEnd, OfLines, PlayGives}
-use Rattle.tool_proofs.proofs.PlayTuples.{end_tuples}
+use Rattle.tool_nets.specs.Play.{end_crowd, play_output, OfEnd, OfLines, PlayGives}
+use Rattle.tool_nets.proofs.PlayTuples.{end_tuples}
 use Rattle.tool_bundles.proofs.OneLast.{one_last}
 
 one_end : (end : NetModel × CrowdModel) → All (IsTuple end.0) end.1 → (x y : Result Output Refusal) → OfEnd end x → OfEnd end y → x ≡ y

@@ -7,8 +7,8 @@ ghost use Rattle.pop_words.specs.Meetings.{meeting_of};
 ghost use Rattle.pop_net.specs.Lanes.{crowd_of, AreValid};
 ghost use Rattle.tool_texts.specs.Steps.{After, GivesStep, Obeys};
 ghost use Rattle.tool_bundles.specs.LastPair.{IsLast};
-ghost use Rattle.tool_proofs.specs.Play.{paired, on_from, played, end_crowd};
-ghost use Rattle.tool_proofs.specs.Play.{end_line, play_output, OfEnd, PlayGives};
+ghost use Rattle.tool_nets.specs.Play.{paired, on_from, played, end_crowd};
+ghost use Rattle.tool_nets.specs.Play.{end_line, play_output, OfEnd, PlayGives};
 
 use pop_crowd::Crowd;
 use pop_io::{Failure, NoMemory};

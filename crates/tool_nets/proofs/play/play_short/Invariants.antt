@@ -1,8 +1,8 @@
 use Rattle.std.proofs.Common.{◌≡◌, ◌+◌, ◌≤◌, length}
 use Rattle.pop_lines.specs.Lines.{lines_of}
 use Rattle.pop_net.specs.Lanes.{crowd_of, AreValid}
-use Rattle.tool_proofs.specs.Play.{on_from}
-use Rattle.tool_proofs.proofs.play.play_short.Given as goal
+use Rattle.tool_nets.specs.Play.{on_from}
+use Rattle.tool_nets.proofs.play.play_short.Given as goal
 
 abbrev pub invariant-lines : goal.invariant-lines
 invariant-lines l = record {

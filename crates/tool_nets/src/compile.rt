@@ -5,8 +5,8 @@ ghost use Rattle.pop_lines.specs.Lines.{lines_of};
 ghost use Rattle.pop_words.specs.Vars.{AreVariables};
 ghost use Rattle.comp_net.specs.Compiles.{Compiles};
 ghost use Rattle.tool_texts.specs.Steps.{GivesStep, Obeys};
-ghost use Rattle.tool_proofs.specs.Compile.{asked_by, fits_its_leaves, refusal_of, compiled_output};
-ghost use Rattle.tool_proofs.specs.Compile.{IsCompiled, OfAsked, CompileGives};
+ghost use Rattle.tool_nets.specs.Compile.{asked_by, fits_its_leaves, refusal_of, compiled_output};
+ghost use Rattle.tool_nets.specs.Compile.{IsCompiled, OfAsked, CompileGives};
 
 use bundle_text::write_bundle;
 use cert_base::Proof;

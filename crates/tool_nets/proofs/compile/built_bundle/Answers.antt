@@ -5,8 +5,8 @@ use Rattle.cert_base.specs.declared.proof.LeafProof.{LeafProof}
 use Rattle.cert_base.specs.ProofLimits.{IsProofWithin}
 use Rattle.pop_net.specs.NetModel.{NetModel}
 use Rattle.pres_ast.specs.PredModel.{IsPred}
-use Rattle.tool_proofs.specs.Compile.{refusal_of, unless_refused}
-use Rattle.tool_proofs.proofs.compile.built_bundle.Goals as goal
+use Rattle.tool_nets.specs.Compile.{refusal_of, unless_refused}
+use Rattle.tool_nets.proofs.compile.built_bundle.Goals as goal
 
 pub returns-in-Ok-clause-compiled : goal.returns-in-Ok-clause-compiled
 returns-in-Ok-clause-compiled c =

@@ -15,7 +15,7 @@ use Rattle.tool_texts.specs.declared.refusal.LineWhy.TheVariants.{Form, Agents}
 use Rattle.tool_texts.specs.Steps.{◌>>=◌, After}
 use Rattle.tool_texts.specs.Lines.{two_and_more}
 use Rattle.tool_texts.specs.Json.{HasValue}
-use Rattle.tool_proofs.specs.declared.play.TheConstants.{MEETINGS_LINE}
+use Rattle.tool_nets.specs.declared.play.TheConstants.{MEETINGS_LINE}
 use Rattle.tool_bundles.specs.Start.{start_in}
 use Rattle.tool_bundles.specs.LastPair.{IsLast}
 use Rattle.tool_texts.specs.declared.output.Output.{Output}

@@ -3,8 +3,8 @@ use Rattle.tool_texts.specs.declared.refusal.Refusal.{Refusal}
 use Rattle.tool_texts.specs.declared.output.Output.{Output}
 use Rattle.tool_texts.specs.Steps.{After, Obeys}
 use Rattle.tool_texts.proofs.Goes.{gives_obeys}
-use Rattle.tool_proofs.specs.Compile.{compiled_output, OfFitting}
-use Rattle.tool_proofs.proofs.compile.compile_asked.Goals as goal
+use Rattle.tool_nets.specs.Compile.{compiled_output, OfFitting}
+use Rattle.tool_nets.proofs.compile.compile_asked.Goals as goal
 
 pub returns : goal.returns
 returns c =

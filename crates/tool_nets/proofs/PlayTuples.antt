@@ -16,9 +16,9 @@ use Rattle.pop_words.specs.declared.meeting.MeetingFault.{MeetingFault}
 use Rattle.pop_words.specs.declared.meeting.MeetingFault.TheVariants as meeting
 use Rattle.tool_texts.specs.Steps.{◌>>=◌}
 use Rattle.tool_texts.proofs.Goes.{bind_ok, same_ok}
-use Rattle.tool_proofs.specs.declared.play.TheConstants.{MEETINGS_LINE}
+use Rattle.tool_nets.specs.declared.play.TheConstants.{MEETINGS_LINE}
 use Rattle.tool_bundles.specs.Start.{net_in, fitting_in, crowd_in, start_in}
-use Rattle.tool_proofs.specs.Play.{between, paired, meetings_in, played, end_crowd}
+use Rattle.tool_nets.specs.Play.{between, paired, meetings_in, played, end_crowd}
 
 chosen : {A : Type 0} (b : Bool) (x y : A) (fault : MeetingFault) → cond b (let r : Result A MeetingFault = Ok x in r) (Err fault) ≡ Ok y → (b ≡ true) × (x ≡ y)
 chosen true x y fault e = (refl, cc)

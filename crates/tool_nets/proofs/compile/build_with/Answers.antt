@@ -1,5 +1,5 @@
 use Rattle.std.proofs.Common.{rules}
-use Rattle.tool_proofs.proofs.compile.build_with.Goals as goal
+use Rattle.tool_nets.proofs.compile.build_with.Goals as goal
 
 pub returns-in-Flocks : goal.returns-in-Flocks
 returns-in-Flocks c = search rules

@@ -7,8 +7,8 @@ use Rattle.pop_crowd.specs.Replay.{replay}
 use Rattle.pop_words.specs.Meetings.{meeting_of}
 use Rattle.tool_texts.specs.declared.refusal.Refusal.{Refusal}
 use Rattle.tool_texts.specs.Steps.{◌>>=◌}
-use Rattle.tool_proofs.specs.declared.play.TheConstants.{MEETINGS_LINE}
-use Rattle.tool_proofs.specs.Play.{between, paired, meetings_in, on_from}
+use Rattle.tool_nets.specs.declared.play.TheConstants.{MEETINGS_LINE}
+use Rattle.tool_nets.specs.Play.{between, paired, meetings_in, on_from}
 
 -- what the loop over the lines keeps
 pub record Playing (same : Type 0) (valid : Type 0) (agents n number left lines : ℕ) : Type 0 where

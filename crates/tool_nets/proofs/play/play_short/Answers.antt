@@ -1,9 +1,9 @@
 use Rattle.std.proofs.Common.{ℕ, List, length, ap, ◌∙◌, arith}
 use Rattle.pop_lines.specs.Lines.{lines_of}
 use Rattle.pop_net.specs.Lanes.{crowd_of}
-use Rattle.tool_proofs.specs.Play.{paired}
-use Rattle.tool_proofs.proofs.Played.{one_line}
-use Rattle.tool_proofs.proofs.play.play_short.Goals as goal
+use Rattle.tool_nets.specs.Play.{paired}
+use Rattle.tool_nets.proofs.Played.{one_line}
+use Rattle.tool_nets.proofs.play.play_short.Goals as goal
 
 pub lines-preserved : goal.lines-preserved
 lines-preserved c =

@@ -3,9 +3,9 @@ use Rattle.std.specs.Prelude.{option_map}
 use Rattle.pop_net.specs.Lanes.{crowd_of}
 use Rattle.tool_texts.specs.declared.output.Output.{Output}
 use Rattle.tool_texts.specs.declared.output.Ending.TheVariants.{Done}
-use Rattle.tool_proofs.specs.Play.{end_line}
-use Rattle.tool_proofs.proofs.PlayEnds.{last_is}
-use Rattle.tool_proofs.proofs.play.end_output.Goals as goal
+use Rattle.tool_nets.specs.Play.{end_line}
+use Rattle.tool_nets.proofs.PlayEnds.{last_is}
+use Rattle.tool_nets.proofs.play.end_output.Goals as goal
 
 pub returns : goal.returns
 returns c =

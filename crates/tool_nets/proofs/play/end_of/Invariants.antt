@@ -1,10 +1,10 @@
 use Rattle.std.proofs.Common.{◌≡◌, length}
 use Rattle.pop_lines.specs.Lines.{lines_of}
 use Rattle.pop_net.specs.Lanes.{crowd_of, AreValid}
-use Rattle.tool_proofs.specs.declared.play.TheConstants.{MEETINGS_LINE}
-use Rattle.tool_proofs.specs.Play.{on_from}
-use Rattle.tool_proofs.proofs.Played.{Playing}
-use Rattle.tool_proofs.proofs.play.end_of.Given as goal
+use Rattle.tool_nets.specs.declared.play.TheConstants.{MEETINGS_LINE}
+use Rattle.tool_nets.specs.Play.{on_from}
+use Rattle.tool_nets.proofs.Played.{Playing}
+use Rattle.tool_nets.proofs.play.end_of.Given as goal
 
 abbrev pub invariant-lines : goal.invariant-lines
 invariant-lines l =

@@ -1,0 +1,3 @@
+pub mod Eval
+pub mod Play
+pub mod Compile
