@@ -120,6 +120,7 @@ TOP_CRATES = (
     "tool_bundles",
     "tool_nets",
     "tool_checks",
+    "tool_rejections",
     "tool_proofs",
     "tool_courses",
     "tool_replays",

@@ -10,7 +10,7 @@ use Rattle.cert_base.specs.declared.stable.StablePart.TheVariants.{Silent, Stabl
 use Rattle.cert_base.specs.declared.stable.StableProof.{StableProof}
 use Rattle.cert_base.specs.ProofBound.{layers_bound, proof_bound}
 use Rattle.goal_checker.specs.ValidStable.{goals_bound, part_bound, stable_bound}
-use Rattle.goal_settle.specs.Chosen.{layers_for, layers_at, part_at, proof_at}
+use Rattle.goal_rest.specs.Chosen.{layers_for, layers_at, part_at, proof_at}
 
 goal_short : (goals : LeafGoals) (value : Bool) → layers_bound (layers_for goals value) ≤ goals_bound goals
 goal_short goals true = omega arith

@@ -27,10 +27,10 @@ use Rattle.cert_goals.specs.ValidGoal.{ValidGoal}
 use Rattle.goal_checker.specs.ValidStable.{ValidPart}
 use Rattle.pop_settle.specs.Settling.{AreFewLayers, HasLayers}
 use Rattle.pres_ast.specs.PredicateValue.{predicate_value}
-use Rattle.goal_settle.specs.Chosen.{layers_for, layers_at, part_at, proof_at}
-use Rattle.goal_settle.specs.HushedNet.{hushed_net}
+use Rattle.goal_rest.specs.Chosen.{layers_for, layers_at, part_at, proof_at}
+use Rattle.goal_rest.specs.HushedNet.{hushed_net}
 use Rattle.goal_settle.specs.SettlesGoals.{CanSettle}
-use Rattle.goal_settle.proofs.HushedLeaves.{hushed_length, hushed_of}
+use Rattle.goal_rest.proofs.HushedLeaves.{hushed_length, hushed_of}
 
 -- ---- a leaf that falls silent: what its layers don't list is silent already
 

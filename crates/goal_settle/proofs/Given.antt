@@ -14,10 +14,10 @@ use Rattle.pop_settle.specs.Settlement.{IsSettlement}
 use Rattle.pop_settle.specs.Settles.{Settles}
 use Rattle.pop_settle.proofs.Endings.{leads_reached}
 use Rattle.pop_settle.proofs.Once.{are_one}
-use Rattle.goal_settle.specs.Chosen.{proof_at}
-use Rattle.goal_settle.specs.HushedNet.{hushed_net}
+use Rattle.goal_rest.specs.Chosen.{proof_at}
+use Rattle.goal_rest.specs.HushedNet.{hushed_net}
 use Rattle.goal_settle.specs.SettlesGoals.{SettlesGoals}
-use Rattle.goal_settle.proofs.HushedLeaves.{crowd_same, valid_given}
+use Rattle.goal_rest.proofs.HushedLeaves.{crowd_same, valid_given}
 use Rattle.goal_settle.proofs.Rests.{settlement_right}
 use Rattle.goal_settle.proofs.Takes.{settlement_given}
 

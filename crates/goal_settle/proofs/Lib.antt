@@ -1,4 +1,3 @@
-pub mod HushedLeaves
 mod ChosenLayers
 mod Takes
 mod Dead

@@ -35,12 +35,12 @@ use Rattle.goal_checker.proofs.StableSound.{rests}
 use Rattle.pop_settle.specs.declared.take.Take.{Take}
 use Rattle.pop_settle.specs.Settlement.{IsSettlement}
 use Rattle.pop_settle.proofs.Endings.{leads_reached}
-use Rattle.goal_settle.specs.Chosen.{layers_at, part_at, proof_at}
-use Rattle.goal_settle.specs.HushedNet.{hushed_net}
+use Rattle.goal_rest.specs.Chosen.{layers_at, part_at, proof_at}
+use Rattle.goal_rest.specs.HushedNet.{hushed_net}
 use Rattle.goal_settle.specs.Laws.{EndsRight}
-use Rattle.goal_settle.specs.Resting.{IsResting}
+use Rattle.goal_rest.specs.Resting.{IsResting}
 use Rattle.goal_settle.proofs.Dead.{layers_dead}
-use Rattle.goal_settle.proofs.HushedLeaves.{hushed_length, hushed_at}
+use Rattle.goal_rest.proofs.HushedLeaves.{hushed_length, hushed_at}
 
 -- ---- a leaf
 

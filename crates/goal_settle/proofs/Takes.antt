@@ -11,8 +11,8 @@ use Rattle.cert_layers.proofs.NotLower.{contains-listed}
 use Rattle.cert_sets.specs.Layered.{layered}
 use Rattle.pop_settle.specs.declared.take.Take.{Take}
 use Rattle.pop_settle.specs.Settlement.{CanTake, IsNext, crowd_after_take, LeadsBy, IsSettlement}
-use Rattle.goal_settle.specs.HushedNet.{hushed_net}
-use Rattle.goal_settle.proofs.HushedLeaves.{hushed_at, hushed_of}
+use Rattle.goal_rest.specs.HushedNet.{hushed_net}
+use Rattle.goal_rest.proofs.HushedLeaves.{hushed_at, hushed_of}
 
 -- what stands at a place is listed
 pub listed_there : (numbers : List ℕ) (place n : ℕ) → slice_get numbers place ≡ Some n → Contains numbers n

@@ -13,8 +13,8 @@ use Rattle.goal_checker.specs.ValidStable.{ValidStableProof, stable_bound}
 use Rattle.goal_checker.specs.StableSound.{AreStablePreds}
 use Rattle.pop_settle.specs.declared.take.Take.{Take}
 use Rattle.pop_settle.specs.Settlement.{IsSettlement}
-use Rattle.goal_settle.specs.Chosen.{proof_at}
-use Rattle.goal_settle.specs.Resting.{IsResting}
+use Rattle.goal_rest.specs.Chosen.{proof_at}
+use Rattle.goal_rest.specs.Resting.{IsResting}
 
 -- if the proof is valid for the predicate, and the crowd on the way from the input with these counts: at the end every
 -- agent outputs the predicate's value, and does so for ever, whatever happens

@@ -17,7 +17,7 @@ use Rattle.pop_settle.specs.declared.take.Settled.{Settled}
 use Rattle.pop_settle.specs.Settlement.{IsSettlement}
 use Rattle.pop_settle.specs.Laws.{IsOnlySettlement}
 use Rattle.pop_settle.specs.Settling.{RefusesSettle}
-use Rattle.goal_settle.specs.Chosen.{proof_at}
+use Rattle.goal_rest.specs.Chosen.{proof_at}
 use Rattle.goal_settle.specs.Laws.{EndsRight}
 
 -- the parts are valid, and the counts are over the net's variables

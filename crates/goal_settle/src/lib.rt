@@ -1,14 +1,11 @@
 //! Settling a crowd by the goals that its input chooses, to outputs that are right for ever.
-//! It stands on `pop_settle`, `pop_hushed` and `goal_checker`.
-//! The layer above uses: `settle_goals` gives the settlement by the chosen layers; `resting_net` is the net of these.
+//! It stands on `pop_settle`, `goal_checker`, and `goal_rest`, which has the net of the chosen layers.
+//! The layer above uses: `settle_goals` gives the settlement by the chosen layers; `settlements_rest` says where it ends.
 #![tactic(auto)]
 
-mod chosen;
-mod hushed;
 mod law;
-mod resting;
 mod settling;
 
+pub use goal_rest::resting_net;
 pub use law::settlements_rest;
-pub use resting::resting_net;
 pub use settling::settle_goals;

@@ -3,9 +3,8 @@
 ghost use Rattle.pop_net.specs.Lanes.{AreValid};
 ghost use Rattle.goal_settle.specs.SettlesGoals.{CanSettle, SettlesGoals};
 
-use crate::chosen::chosen_proof;
-use crate::hushed::hushed_net;
 use cert_base::StableProof;
+use goal_rest::{chosen_proof, hushed_net};
 use pop_crowd::Crowd;
 use pop_io::Failure;
 use pop_net::Net;

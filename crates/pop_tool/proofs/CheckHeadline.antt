@@ -18,7 +18,7 @@ use Rattle.tool_texts.specs.Statuses.{status_of}
 use Rattle.tool_texts.specs.Steps.{After}
 use Rattle.tool_texts.specs.Lines.{just_one}
 use Rattle.tool_texts.specs.Refusals.{refusal_text, output_for}
-use Rattle.tool_checks.specs.Rejections.{rejected_text}
+use Rattle.tool_rejections.specs.Rejections.{rejected_text}
 use Rattle.tool_texts.proofs.OneValue.{one_value}
 use Rattle.goal_json.proofs.WithoutGoals.{file_without}
 use Rattle.goal_checker.specs.declared.fault.StableRejected.{StableRejected}

@@ -23,8 +23,8 @@ use Rattle.journal_text.specs.declared.last.Last.{Last}
 use Rattle.journal_text.specs.Ending.{common_output, quiet_ending, rest_ending, ending_until}
 use Rattle.journal_text.proofs.Looks.{common_some}
 use Rattle.pop_journal.proofs.RunKinds.{is_watched_until}
-use Rattle.goal_settle.specs.Chosen.{proof_at}
-use Rattle.goal_settle.proofs.HushedLeaves.{states_listed}
+use Rattle.goal_rest.specs.Chosen.{proof_at}
+use Rattle.goal_rest.proofs.HushedLeaves.{states_listed}
 use Rattle.tool_bundles.specs.declared.bundle.AnyBundle.{AnyBundle}
 use Rattle.tool_bundles.specs.declared.bundle.AnyBundle.TheVariants.{Plain, Stable}
 use Rattle.tool_bundles.specs.StableBundles.{IsAnyBegunBy}

@@ -9,7 +9,7 @@ use Rattle.goal_checker.specs.declared.fault.StableRejected.TheVariants.{Plain, 
 use Rattle.tool_texts.specs.declared.refusal.Refusal.{Refusal}
 use Rattle.tool_texts.specs.declared.refusal.Refusal.TheVariants.{TooLong, Line, NotJson, Format, Pred, Count, Size, Journal, Atoms, Range, Width, States, Wide, Settle}
 use Rattle.tool_texts.specs.Refusals.{refusal_text}
-use Rattle.tool_checks.specs.Rejections.{rejected_text, stable_rejected_text}
+use Rattle.tool_rejections.specs.Rejections.{rejected_text, stable_rejected_text}
 use Rattle.tool_texts.specs.Differences.{difference_text}
 
 unfoldable pub first_byte : List ℕ → ℕ

@@ -30,7 +30,7 @@ use Rattle.tool_texts.specs.Steps.{◌>>=◌, After}
 use Rattle.tool_texts.specs.Lines.{two_and_some}
 use Rattle.tool_texts.specs.Differences.{difference_text}
 use Rattle.tool_texts.specs.Refusals.{refusal_text, output_for}
-use Rattle.tool_checks.specs.Rejections.{stable_rejected_text}
+use Rattle.tool_rejections.specs.Rejections.{stable_rejected_text}
 use Rattle.tool_replays.specs.declared.replay.TheConstants.{JOURNAL_LINE}
 use Rattle.tool_bundles.specs.declared.bundle.AnyBundle.{AnyBundle}
 use Rattle.tool_bundles.specs.StableBundles.{IsAnyBegunBy}

@@ -19,7 +19,7 @@ use Rattle.goal_json.specs.declared.bundle.StableBundle.{StableBundle}
 use Rattle.goal_json.proofs.StablePreds.{file_net, file_preds}
 use Rattle.goal_checker.specs.declared.fault.StableRejected.{StableRejected}
 use Rattle.goal_checker.proofs.StableSound.{stable_sound}
-use Rattle.goal_settle.specs.Resting.{resting_net}
+use Rattle.goal_rest.specs.Resting.{resting_net}
 use Rattle.goal_settle.proofs.Rests.{resting_right}
 use Rattle.net_goals.specs.OutputStable.{IsOutputStable}
 use Rattle.tool_texts.specs.declared.refusal.Refusal.{Refusal}

@@ -21,7 +21,7 @@ use Rattle.goal_json.specs.declared.bundle.StableBundle.{StableBundle}
 use Rattle.goal_json.proofs.StablePreds.{file_net, file_preds}
 use Rattle.goal_checker.specs.declared.fault.StableRejected.{StableRejected}
 use Rattle.goal_checker.proofs.StableSound.{stable_sound}
-use Rattle.goal_settle.specs.Chosen.{proof_at}
+use Rattle.goal_rest.specs.Chosen.{proof_at}
 use Rattle.goal_settle.proofs.Rests.{settlement_right}
 use Rattle.tool_bundles.specs.declared.bundle.AnyBundle.{AnyBundle}
 use Rattle.tool_bundles.specs.declared.bundle.AnyBundle.TheVariants.{Plain, Stable}

@@ -23,8 +23,8 @@ use Rattle.net_goals.specs.StablyRight.{IsStablyRight}
 use Rattle.goal_checker.specs.ValidStable.{ValidStableProof, stable_bound}
 use Rattle.pop_settle.specs.declared.take.Take.{Take}
 use Rattle.pop_settle.specs.Settlement.{IsSettlement}
-use Rattle.goal_settle.specs.Chosen.{proof_at}
-use Rattle.goal_settle.specs.Resting.{resting_net, IsResting}
+use Rattle.goal_rest.specs.Chosen.{proof_at}
+use Rattle.goal_rest.specs.Resting.{resting_net, IsResting}
 use Rattle.tool_texts.specs.declared.status.Status.{Status}
 use Rattle.tool_texts.specs.declared.status.Status.TheVariants.{Done, Undecided}
 use Rattle.tool_texts.specs.Json.{HasValue}

@@ -1,2 +1,1 @@
-pub mod Rejected
 pub mod OneJudged

@@ -1,7 +1,5 @@
 -- What the check says of a bundle's proof.
-use Rattle.std.specs.Prelude.{◌≡◌, Option, Some, None, Result, Ok}
-use Rattle.pop_io.specs.declared.failure.Failure.{Failure}
-use Rattle.pop_io.specs.declared.failure.Failure.TheVariants.{Fault, NoMemory}
+use Rattle.std.specs.Prelude.{Option, Some, None}
 use Rattle.cert_base.specs.ValidProof.{ValidProof}
 use Rattle.cert_json.specs.declared.bundle.Bundle.{Bundle}
 use Rattle.goal_json.specs.declared.bundle.StableBundle.{StableBundle}
@@ -11,11 +9,8 @@ use Rattle.goal_checker.specs.declared.fault.StableRejected.{StableRejected}
 use Rattle.goal_checker.specs.declared.fault.StableRejected.TheVariants as rejected
 use Rattle.goal_checker.specs.ValidStable.{ValidStableProof}
 use Rattle.goal_checker.specs.Rejections.{IsStableRejected}
-use Rattle.tool_texts.specs.declared.refusal.Refusal.{Refusal}
-use Rattle.tool_texts.specs.declared.output.Output.{Output}
 use Rattle.tool_bundles.specs.declared.bundle.AnyBundle.{AnyBundle}
 use Rattle.tool_bundles.specs.declared.bundle.AnyBundle.TheVariants.{Plain, Stable}
-use Rattle.tool_checks.specs.Rejections.{rejection_output}
 
 -- the proof is valid, or this is its first part that is not valid
 abbrev pub IsJudged : Bundle → Option Rejected → Type 0
@@ -32,8 +27,3 @@ IsAnyJudged (Plain bundle) None = IsJudged bundle None
 IsAnyJudged (Plain bundle) (Some (rejected.Plain part)) = IsJudged bundle (Some part)
 IsAnyJudged (Plain bundle) (Some (rejected.Goal leaf value why)) = ⊥
 IsAnyJudged (Stable bundle) judged = IsStableJudged bundle judged
-
--- the rejection that a check found is reported
-abbrev pub TellsRejection : Failure Rejected → Result Output Refusal → Type 0
-TellsRejection (Fault rejected) given = given ≡ Ok (rejection_output rejected)
-TellsRejection NoMemory given = ⊥

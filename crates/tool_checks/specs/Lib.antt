@@ -1,2 +1,1 @@
-pub mod Rejections
 pub mod Judged

@@ -8,9 +8,9 @@ use Rattle.journal_text.specs.declared.last.Outcome.TheVariants.{Agreed, Known}
 use Rattle.cert_base.specs.ProofBound.{proof_bound}
 use Rattle.cert_json.specs.declared.bundle.Bundle.{Bundle}
 use Rattle.goal_json.specs.declared.bundle.StableBundle.{StableBundle}
-use Rattle.goal_settle.specs.Chosen.{proof_at}
-use Rattle.goal_settle.specs.Resting.{resting_net}
-use Rattle.goal_settle.proofs.HushedLeaves.{states_listed}
+use Rattle.goal_rest.specs.Chosen.{proof_at}
+use Rattle.goal_rest.specs.Resting.{resting_net}
+use Rattle.goal_rest.proofs.HushedLeaves.{states_listed}
 use Rattle.pair_runs.specs.SameLanes.{HaveSameLanes}
 use Rattle.pop_checker.specs.CheckedModel.{CheckedModel}
 use Rattle.tool_bundles.specs.declared.bundle.AnyBundle.{AnyBundle}

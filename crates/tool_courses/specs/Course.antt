@@ -6,7 +6,7 @@ use Rattle.journal_text.specs.declared.last.Last.{Last}
 use Rattle.journal_text.specs.declared.last.Last.TheVariants.{Verdict, Settled}
 use Rattle.journal_text.specs.declared.last.Outcome.{Outcome}
 use Rattle.journal_text.specs.declared.last.Outcome.TheVariants.{Agreed, Known}
-use Rattle.goal_settle.specs.Resting.{resting_net}
+use Rattle.goal_rest.specs.Resting.{resting_net}
 use Rattle.tool_bundles.specs.declared.bundle.AnyBundle.{AnyBundle}
 use Rattle.tool_bundles.specs.declared.bundle.AnyBundle.TheVariants.{Plain, Stable}
 

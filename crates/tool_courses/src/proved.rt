@@ -11,7 +11,7 @@ ghost use Rattle.tool_courses.specs.Proved.{proved_net, proved_rest, proved_pred
 use cert_json::Bundle;
 use goal_checker::{StableRejected, check_stable};
 use goal_json::StableBundle;
-use goal_settle::resting_net;
+use goal_rest::resting_net;
 use journal_text::Last;
 use pop_checker::Checked;
 use pop_io::Failure;

@@ -14,7 +14,7 @@ use Rattle.tool_texts.specs.Lines.{just_two}
 use Rattle.tool_texts.proofs.Goes.{one_after}
 use Rattle.goal_json.specs.declared.bundle.StableBundle.{StableBundle}
 use Rattle.goal_checker.specs.declared.fault.StableRejected.{StableRejected}
-use Rattle.goal_settle.specs.Chosen.{proof_at}
+use Rattle.goal_rest.specs.Chosen.{proof_at}
 use Rattle.tool_bundles.specs.declared.bundle.AnyBundle.{AnyBundle}
 use Rattle.tool_bundles.specs.declared.bundle.AnyBundle.TheVariants.{Plain, Stable}
 use Rattle.tool_proofs.specs.Settle.{settle_output, takes_allowed, IsSettled, OfJudged, OfBegun, OfLines, SettleGives, goals_output, goal_takes_allowed, IsSettledByGoals, OfGoalsJudged, OfAnyBegun}

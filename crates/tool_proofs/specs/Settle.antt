@@ -20,10 +20,10 @@ use Rattle.tool_texts.specs.declared.output.Output.{Output}
 use Rattle.tool_texts.specs.declared.output.Ending.TheVariants.{Done}
 use Rattle.tool_texts.specs.Steps.{After}
 use Rattle.tool_texts.specs.Lines.{just_two}
-use Rattle.tool_checks.specs.Rejections.{rejection_output, stable_rejection_output}
+use Rattle.tool_rejections.specs.Rejections.{rejection_output, stable_rejection_output}
 use Rattle.goal_json.specs.declared.bundle.StableBundle.{StableBundle}
 use Rattle.goal_checker.specs.declared.fault.StableRejected.{StableRejected}
-use Rattle.goal_settle.specs.Chosen.{proof_at}
+use Rattle.goal_rest.specs.Chosen.{proof_at}
 use Rattle.tool_bundles.specs.declared.bundle.AnyBundle.{AnyBundle}
 use Rattle.tool_bundles.specs.declared.bundle.AnyBundle.TheVariants.{Plain, Stable}
 use Rattle.tool_checks.specs.Judged.{IsJudged, IsStableJudged}

@@ -11,7 +11,7 @@ use Rattle.tool_texts.specs.declared.output.Output.{Output}
 use Rattle.tool_texts.specs.declared.output.Ending.TheVariants.{Done}
 use Rattle.tool_texts.specs.Steps.{After}
 use Rattle.tool_texts.specs.Lines.{just_one}
-use Rattle.tool_checks.specs.Rejections.{rejection_output}
+use Rattle.tool_rejections.specs.Rejections.{rejection_output}
 use Rattle.tool_bundles.specs.Bundles.{IsBundleOf}
 use Rattle.tool_checks.specs.Judged.{IsJudged}
 use Rattle.tool_proofs.specs.Check.{certified_text}

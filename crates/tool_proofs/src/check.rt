@@ -14,7 +14,8 @@ use goal_json::StableBundle;
 use pop_io::Failure;
 use std::alloc::Global;
 use tool_bundles::{AnyBundle, any_bundle_of_line};
-use tool_checks::{check_bundle, rejection_of, stable_rejection_output};
+use tool_checks::check_bundle;
+use tool_rejections::{rejection_of, stable_rejection_output};
 use tool_texts::{Ending, Output, Stop, just_one_line};
 
 /// The output for a valid proof with this bound.

@@ -27,7 +27,7 @@ use pop_net::Net;
 use pop_settle::{SettleFault, Settled, Take};
 use std::alloc::{AllocError, Global};
 use tool_bundles::{AnyBundle, Start, begin_any};
-use tool_checks::{rejection_of, stable_rejection_output};
+use tool_rejections::{rejection_of, stable_rejection_output};
 use tool_texts::{Ending, Output, Refusal, Stop, just_two_lines};
 
 fn push_take(text: &mut Vec<u8>, take: Take) -> Result<(), AllocError>

@@ -21,7 +21,7 @@ use pop_show::push_shown;
 use pres_ast::Pred;
 use std::alloc::Global;
 use tool_bundles::bundle_of_line;
-use tool_checks::rejection_of;
+use tool_rejections::rejection_of;
 use tool_texts::{Ending, Output, Stop, just_one_line};
 
 /// The line of `check`, and the lines of what was checked.

@@ -21,8 +21,8 @@ use pop_journal::{Journal, JournalFault, VerifyFault, read_journal, verify, veri
 use run_spec::RunKind;
 use std::alloc::Global;
 use tool_bundles::{AnyBundle, Start, begin_any};
-use tool_checks::stable_rejection_output;
 use tool_courses::{Proved, prove};
+use tool_rejections::stable_rejection_output;
 use tool_texts::{Ending, Output, Refusal, Stop, two_and_some_lines};
 
 /// The number of the line in which the journal begins, after the bundle and the crowd line.

@@ -12,8 +12,8 @@ use Rattle.run_spec.specs.declared.spec.RunSpec.{RunSpec}
 use Rattle.pair_runs.proofs.OnlyRun.{only_run}
 use Rattle.journal_text.specs.Journal.{journal_text}
 use Rattle.goal_checker.specs.declared.fault.StableRejected.{StableRejected}
-use Rattle.goal_settle.specs.Chosen.{proof_at}
-use Rattle.goal_settle.proofs.HushedLeaves.{hushed_length}
+use Rattle.goal_rest.specs.Chosen.{proof_at}
+use Rattle.goal_rest.proofs.HushedLeaves.{hushed_length}
 use Rattle.tool_texts.specs.declared.refusal.Refusal.{Refusal}
 use Rattle.tool_texts.specs.declared.output.Output.{Output}
 use Rattle.tool_texts.specs.Steps.{After}

@@ -11,7 +11,7 @@ use Rattle.tool_texts.specs.Lines.{just_two}
 use Rattle.tool_bundles.specs.declared.bundle.AnyBundle.{AnyBundle}
 use Rattle.tool_bundles.specs.StableBundles.{IsAnyBegunBy}
 use Rattle.tool_checks.specs.Judged.{IsAnyJudged}
-use Rattle.tool_checks.specs.Rejections.{stable_rejection_output}
+use Rattle.tool_rejections.specs.Rejections.{stable_rejection_output}
 use Rattle.tool_courses.specs.Course.{course_of}
 use Rattle.tool_courses.specs.RunOutput.{IsRunOutput}
 

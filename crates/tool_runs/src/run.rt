@@ -15,8 +15,8 @@ use pop_io::{Failure, List};
 use run_spec::{RunKind, RunSpec};
 use std::alloc::{AllocError, Global};
 use tool_bundles::{AnyBundle, Start, begin_any};
-use tool_checks::stable_rejection_output;
 use tool_courses::{PendingRun, Prepared, Setting, prove};
+use tool_rejections::stable_rejection_output;
 use tool_texts::{Stop, just_two_lines};
 
 /// Whether a run has one worker. A whole run by one worker is made without threads; any other run is made on threads.

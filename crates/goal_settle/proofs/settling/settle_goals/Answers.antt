@@ -1,5 +1,5 @@
 use Rattle.goal_settle.proofs.ChosenLayers.{chosen_layers}
-use Rattle.goal_settle.proofs.HushedLeaves.{valid_hushed}
+use Rattle.goal_rest.proofs.HushedLeaves.{valid_hushed}
 use Rattle.goal_settle.proofs.Given.{settles_given}
 use Rattle.goal_settle.proofs.settling.settle_goals.Goals as goal
 

@@ -5,7 +5,7 @@ use Rattle.tool_texts.specs.declared.output.Output.{Output}
 use Rattle.tool_texts.specs.Steps.{Obeys}
 use Rattle.tool_texts.proofs.Goes.{obeys_wider}
 use Rattle.tool_proofs.specs.Settle.{OfJudged, OfBegun}
-use Rattle.tool_checks.proofs.Rejected.{rejected_obeys}
+use Rattle.tool_rejections.proofs.Rejected.{rejected_obeys}
 use Rattle.tool_proofs.proofs.Settled.{has_layers}
 use Rattle.tool_proofs.proofs.settle.settle_begun.Goals as goal
 

@@ -6,7 +6,7 @@ use Rattle.tool_texts.specs.declared.output.Output.{Output}
 use Rattle.tool_texts.specs.Steps.{GivesStep}
 use Rattle.tool_texts.proofs.Goes.{gives_obeys}
 use Rattle.tool_proofs.specs.Show.{shown_output, OfBundle}
-use Rattle.tool_checks.proofs.Rejected.{rejected_obeys}
+use Rattle.tool_rejections.proofs.Rejected.{rejected_obeys}
 use Rattle.tool_proofs.proofs.Shown.{showable}
 use Rattle.tool_proofs.proofs.show.judge.Goals as goal
 
