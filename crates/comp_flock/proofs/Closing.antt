@@ -1,10 +1,10 @@
 -- Both trees of a built leaf of a flock atom close.
 use Rattle.std.proofs.Common.{◌≡◌, ◌∙◌, subst, ℕ, zero, suc, ◌+◌, ◌<◌, ◌≤◌, Bool, true, false, ◌&&◌, List, [], ◌∷◌, ◌++◌, length, map, append_assoc, length-append, refl, ap, sym, zero-add, arith}
-use Rattle.std.specs.Prelude.{ℤ, if◌then◌else◌, ◌==◌, not, Some, nat_lt, filter, All}
+use Rattle.std.specs.Prelude.{ℤ, if◌then◌else◌, ◌==◌, not, Some, nat_lt, filter}
 use Rattle.std.specs.List.{range_with_len}
 use Rattle.std.proofs.lemmas.Bool.{lt-ltb, eq-eqb, ne_eqb}
 use Rattle.std.proofs.lemmas.List.{append-nil}
-use Rattle.std.proofs.lemmas.List.Elements.{All-head, All-tail, filter-append}
+use Rattle.std.proofs.lemmas.List.Elements.{filter-append}
 use Rattle.std.proofs.lemmas.List.FromFn.{length-map-range_with_len, map-range_with_len_more}
 use Rattle.pop_net.specs.LeafModel.{LeafModel}
 use Rattle.pres_ast.specs.PredModel.{PredModel}
@@ -16,24 +16,20 @@ use Rattle.cert_base.specs.Rows.{input_row}
 use Rattle.cert_base.specs.FactsAndCases.{states_of, flow, base_list, two_agents_fact, wrong_output_fact, absent_fact, occurs_fact, alone_fact, not_twice, can_meet_in}
 use Rattle.cert_base.specs.Closes.{cases_of, ClosesUnder, refuted, by_cases, no_case, next_case, Closes}
 use Rattle.comp_trees.specs.LeaderTree.{weighed_node}
-use Rattle.comp_flock.specs.FlockLeaf.{says_enough, enough_for, flock_state_name, flock_moves, flock_leaf_with}
-use Rattle.comp_flock.specs.FlockProof.{full_size, few_mix as few_mix_with, converted_mix, first_mix, start_mix as start_mix_with, never_mix, enough_tree, too_few_tree, offset_pred_of}
+use Rattle.comp_counting.specs.FlockAtoms.{says_enough, enough_for, offset_pred_of}
+use Rattle.comp_flock.specs.FlockLeaf.{flock_state_name, flock_moves, flock_leaf_with}
+use Rattle.comp_flock.specs.FlockProof.{full_size, few_mix as few_mix_with, first_mix, enough_tree, too_few_tree}
+use Rattle.comp_counting.specs.FullState.{converted_mix, start_mix as start_mix_with, never_mix}
 use Rattle.comp_flock.proofs.MoveLists.{doubles, converts}
 use Rattle.comp_flock.proofs.Formed.{states-long}
-use Rattle.comp_flock.proofs.Opened.{opened_row, opened_constant, opened-is}
+use Rattle.comp_counting.proofs.Opened.{opened_row, opened_constant, opened-is}
 use Rattle.comp_flock.proofs.Offsets.{IsFilled}
 use Rattle.comp_flock.proofs.EnoughNodes.{few_facts, few_closes, is-counting}
-use Rattle.comp_flock.proofs.FullNodes.{full, IsCounting, converted_facts, converted_closes, start_facts, start_closes, never_facts, never_long, never_closes}
+use Rattle.comp_counting.proofs.FullNodes.{full, IsCounting, converted_facts, converted_closes, start_facts, start_closes, never_facts, never_long, never_closes}
 use Rattle.comp_flock.proofs.TooFewNodes.{first_facts, first_closes, length-taken}
 use Rattle.list_laws.proofs.Ranges.{all_range, range_one_more}
 use Rattle.list_laws.proofs.Lists.{at_end}
-
-pub filter-all : {A : Type 0} (test : A → Bool) (xs : List A) → All (λ x. test x ≡ true) xs → filter test xs ≡ xs
-filter-all test [] all = refl
-filter-all test (x ∷ xs) all =
-    let here = All-head (λ x. test x ≡ true) x xs all in
-    let rest = filter-all test xs (All-tail (λ x. test x ≡ true) x xs all) in
-    rw here (ap (λ ys. x ∷ ys) rest)
+use Rattle.comp_counting.proofs.Filters.{filter-all}
 
 module _ (coefs : List ℤ) (bound : ℤ) (k : ℕ) (helpers : List ℕ) (most : k ≤ 39) (is : IsFilled coefs bound k helpers) where
   -- the value that says that there are enough

@@ -18,19 +18,23 @@ use Rattle.cert_base.specs.FactsAndCases.{indicator, absent_fact, not_twice}
 use Rattle.cert_base.specs.WeightedSums.{sum_of_facts, coefficient, constant_of, may_weigh, total}
 use Rattle.cert_base.proofs.FlowSums.{weighted_sum-map, total-same, total-neg, mul-neg, one-times}
 use Rattle.comp_trees.proofs.LeaderEnds.{absent-at, is_wrong}
-use Rattle.comp_flock.specs.FlockLeaf.{says_enough, enough_for, size_in, flock_state_name, flock_start, flock_moves, flock_leaf_with}
-use Rattle.comp_flock.specs.FlockProof.{full_size, greatest_size, few_mix, offset_pred_of}
-use Rattle.comp_flock.proofs.Powers.{size-power, size-at, size-le, sizes-total, zero_le}
+use Rattle.comp_counting.specs.FlockAtoms.{says_enough, enough_for, offset_pred_of}
+use Rattle.comp_flock.specs.FlockLeaf.{size_in, flock_state_name, flock_moves, flock_leaf_with}
+use Rattle.comp_counting.specs.FullState.{flock_start}
+use Rattle.comp_flock.specs.FlockProof.{full_size, greatest_size, few_mix}
+use Rattle.comp_flock.proofs.Powers.{size-power, size-at, size-le, sizes-total}
+use Rattle.comp_counting.proofs.Numbers.{zero_le}
 use Rattle.comp_flock.proofs.MoveLists.{all_moves}
 use Rattle.comp_flock.proofs.Formed.{states-long}
 use Rattle.comp_trees.specs.LeaderTree.{mix_over}
 use Rattle.comp_trees.proofs.Mixes.{IsPlain, all_facts, IsLow, mix_closes}
-use Rattle.comp_flock.proofs.Opened.{opened_row, opened_constant, opened-long, enough-constant}
-use Rattle.comp_flock.proofs.Starts.{IsStart, start-at, enough-row}
+use Rattle.comp_counting.proofs.Opened.{opened_row, opened_constant, opened-long, enough-constant}
+use Rattle.comp_flock.proofs.Starts.{IsStart, start-at}
+use Rattle.comp_counting.proofs.Counted.{enough-row}
 use Rattle.comp_flock.proofs.Offsets.{total-where, IsFilled}
-use Rattle.comp_flock.proofs.FullNodes.{IsCounting, StartsFull}
+use Rattle.comp_counting.proofs.FullNodes.{IsCounting, StartsFull}
 use Rattle.comp_powers_leaf.proofs.Bits.{double}
-use Rattle.comp_flock.proofs.OwnFacts.{not_twice-at, total-counts, total-others}
+use Rattle.comp_counting.proofs.OwnFacts.{not_twice-at, total-counts, total-others}
 use Rattle.comp_trees.proofs.HelperSums.{total-append}
 use Rattle.list_laws.proofs.Ranges.{all_range, range_one_more}
 

@@ -9,8 +9,10 @@ use Rattle.pop_net.specs.declared.leaf.Move.{Move}
 use Rattle.pop_net.specs.declared.limits.TheConstants.{HELPER_LIMIT}
 use Rattle.pop_net.specs.LeafModel.{LeafModel, IsLeaf, IsMoveBelow}
 use Rattle.pop_io.specs.declared.names.TheConstants.{VARIABLE_LIMIT}
-use Rattle.comp_flock.specs.declared.limits.TheConstants.{POWER_LIMIT}
-use Rattle.comp_flock.specs.FlockLeaf.{is_counted, says_enough, enough_for, flock_start, flock_state_name, flock_moves, flock_output, offset_helpers, all_offset_helpers, flock_leaf_with, flock_leaf_of, offset_leaf_of, IsFlock, IsOffset, HasSpareRoom}
+use Rattle.comp_counting.specs.declared.limits.TheConstants.{POWER_LIMIT}
+use Rattle.comp_counting.specs.FlockAtoms.{is_counted, says_enough, enough_for, IsFlock, IsOffset}
+use Rattle.comp_counting.specs.FullState.{flock_start, flock_output}
+use Rattle.comp_flock.specs.FlockLeaf.{flock_state_name, flock_moves, offset_helpers, all_offset_helpers, flock_leaf_with, flock_leaf_of, offset_leaf_of, HasSpareRoom}
 use Rattle.comp_flock.proofs.Starts.{starts-low, flock-are}
 use Rattle.comp_flock.proofs.Offsets.{helpers-low}
 use Rattle.comp_flock.proofs.MoveLists.{all_moves, moves-long}

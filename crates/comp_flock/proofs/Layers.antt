@@ -3,7 +3,7 @@ use Rattle.std.proofs.Common.{◌≡◌, ◌∙◌, subst, ℕ, zero, suc, ◌+�
 use Rattle.std.specs.Prelude.{ℤ, pos, ◌==◌}
 use Rattle.std.specs.List.{range_with_len}
 use Rattle.std.proofs.lemmas.Int.{ints}
-use Rattle.std.proofs.lemmas.Bool.{eq-eqb, ne_eqb, cases_eq}
+use Rattle.std.proofs.lemmas.Bool.{cases_eq}
 use mathlib.Core.Logic.{◌⊎◌, inl, inr}
 use Rattle.std.proofs.lemmas.List.Elements.{All-nil, All-cons}
 use Rattle.std.proofs.lemmas.List.FromFn.{length-map-range_with_len, get_or-map-range_with_len}
@@ -11,23 +11,19 @@ use Rattle.pop_net.specs.declared.leaf.Move.{Move}
 use Rattle.pop_net.specs.LeafModel.{LeafModel}
 use Rattle.cert_base.specs.ValidLayers.{weight_at, IsLower, ValidLayers}
 use Rattle.comp_trees.proofs.SortedLayers.{AreKinds, sorted_layers-valid}
-use Rattle.comp_flock.specs.FlockLeaf.{doubling_move, conversion_move, flock_moves, flock_leaf_with}
-use Rattle.comp_flock.specs.FlockProof.{flock_weight, flock_layers_of}
+use Rattle.comp_flock.specs.FlockLeaf.{doubling_move, flock_moves, flock_leaf_with}
+use Rattle.comp_counting.specs.FullState.{conversion_move, flock_weight}
+use Rattle.comp_flock.specs.FlockProof.{flock_layers_of}
 use Rattle.comp_flock.proofs.MoveLists.{all_moves, moves-long}
 use Rattle.comp_flock.proofs.Formed.{states-long}
 use Rattle.comp_trees.proofs.TrapNodes.{places-all}
+use Rattle.comp_counting.proofs.LayerWeights.{weight-full, weight-power}
 
 abbrev weights : ℕ → List ℤ
 weights k = map (flock_weight k) (range_with_len 0 (k + 2))
 
 weight-none : (k : ℕ) → flock_weight k 0 ≡ pos 1
 weight-none k = refl
-
-pub weight-full : (k : ℕ) → flock_weight k (k + 1) ≡ pos 0
-weight-full k = let a = ne_eqb (k + 1) 0 (λ e. omega arith) in let b = eq-eqb (k + 1) (k + 1) refl in rw (a, b) refl
-
-pub weight-power : (k i : ℕ) → i < k → flock_weight k (i + 1) ≡ pos 2
-weight-power k i l = let a = ne_eqb (i + 1) 0 (λ e. omega arith) in let b = ne_eqb (i + 1) (k + 1) (λ e. omega arith) in rw (a, b) refl
 
 weight-is : (k q : ℕ) → q < k + 2 → weight_at (weights k) q ≡ flock_weight k q
 weight-is k q l = get_or-map-range_with_len (flock_weight k) 0 (k + 2) q q (pos 0) l (zero-add q)

@@ -2,13 +2,10 @@ pub mod Powers
 pub mod MoveLists
 pub mod SingleMoves
 pub mod StateNames
-pub mod OwnFacts
-pub mod Opened
 pub mod Starts
 pub mod Offsets
 pub mod Formed
 pub mod PowerFound
-pub mod FullNodes
 pub mod EnoughNodes
 pub mod TooFewNodes
 pub mod Small

@@ -1,22 +1,21 @@
 -- The moves of a built leaf of a flock atom.
-use Rattle.std.proofs.Common.{◌≡◌, ◌≢◌, inl, inr, ℕ, ◌+◌, ◌<◌, ◌≤◌, true, false, List, length, map, refl, arith}
-use Rattle.std.specs.Prelude.{◌==◌, All, Contains}
+use Rattle.std.proofs.Common.{◌≡◌, ℕ, ◌+◌, ◌<◌, ◌≤◌, true, false, List, length, map, arith}
+use Rattle.std.specs.Prelude.{All, Contains}
 use Rattle.std.specs.List.{range_with_len, list_any}
-use Rattle.std.proofs.lemmas.Bool.{ne_eqb}
 use Rattle.std.proofs.lemmas.List.{length-append}
 use Rattle.std.proofs.lemmas.List.FromFn.{length-map-range_with_len}
 use Rattle.std.proofs.lemmas.List.Elements.{All-append, All-map, Contains-append_left, Contains-append_right}
-use Rattle.std.proofs.Math.Bool.{and-false}
 use Rattle.pop_net.specs.declared.leaf.Move.{Move}
-use Rattle.pop_net.specs.LeafModel.{silent_move, same_pair}
+use Rattle.pop_net.specs.LeafModel.{silent_move}
 use Rattle.pop_net.specs.Reaction.{takes_states}
 use Rattle.cert_base.proofs.WeightedSums.{list_any-from}
 use Rattle.comp_trees.proofs.Members.{range_has}
-use Rattle.comp_trees.proofs.Single.{differ-by}
-use Rattle.comp_flock.specs.FlockLeaf.{doubling_move, conversion_move, flock_moves}
+use Rattle.comp_flock.specs.FlockLeaf.{doubling_move, flock_moves}
+use Rattle.comp_counting.specs.FullState.{conversion_move}
 use Rattle.list_laws.proofs.Ranges.{all_range}
 use Rattle.list_laws.proofs.Lists.{has_map}
 use Rattle.pop_net.proofs.Silent.{takes-own}
+use Rattle.comp_counting.proofs.Conversions.{all_conversions, differ_pair, conversion-loud}
 
 abbrev doublings : ℕ → List Move
 doublings k = map doubling_move (range_with_len 0 k)
@@ -27,9 +26,6 @@ conversions k = map (conversion_move k) (range_with_len 0 (k + 1))
 -- what holds for each doubling and for each conversion
 pub all_doublings : (k : ℕ) (P : Move → Type 0) → ((i : ℕ) → i < k → P (doubling_move i)) → All P (map doubling_move (range_with_len 0 k))
 all_doublings k P f = All-map P doubling_move (range_with_len 0 k) (all_range (λ i. P (doubling_move i)) 0 k (λ i l m. f i (omega arith)))
-
-pub all_conversions : (k : ℕ) (P : Move → Type 0) → ((q : ℕ) → q ≤ k → P (conversion_move k q)) → All P (map (conversion_move k) (range_with_len 0 (k + 1)))
-all_conversions k P f = All-map P (conversion_move k) (range_with_len 0 (k + 1)) (all_range (λ q. P (conversion_move k q)) 0 (k + 1) (λ q l m. f q (omega arith)))
 
 pub all_moves : (k : ℕ) (P : Move → Type 0) → ((i : ℕ) → i < k → P (doubling_move i)) → ((q : ℕ) → q ≤ k → P (conversion_move k q)) → All P (flock_moves k)
 all_moves k P f g = All-append P (doublings k) (conversions k) (all_doublings k P f) (all_conversions k P g)
@@ -48,14 +44,8 @@ moves-long k =
 
 -- ---- no move is silent
 
-pub differ_pair : (p q u v : ℕ) → q ≢ v → p ≢ v → same_pair p q u v ≡ false
-differ_pair p q u v e f = differ-by p q u v (inr e) (inl f)
-
 pub doubling-loud : (i : ℕ) → silent_move (doubling_move i) ≡ false
 doubling-loud i = differ_pair (i + 1) (i + 1) (i + 2) 0 (λ e. omega arith) (λ e. omega arith)
-
-pub conversion-loud : (k q : ℕ) → q ≤ k → silent_move (conversion_move k q) ≡ false
-conversion-loud k q l = let first = ne_eqb q (k + 1) (λ e. omega arith) in let none = and-false ((k + 1) == (k + 1)) in rw (first, none) refl
 
 -- ---- which states can meet
 

@@ -1,6 +1,6 @@
 -- What an atom with an offset says, and how many agents its helpers stand for.
 use Rattle.std.proofs.Common.{◌≡◌, ◌∙◌, subst, ℕ, zero, suc, ◌+◌, ◌-◌, ◌^◌, ◌%◌, ◌<◌, ◌≤◌, Bool, true, false, List, [], ◌∷◌, ◌++◌, length, get_or, refl, ap, sym, arith}
-use Rattle.std.specs.Prelude.{ℤ, pos, negsuc, neg_ℤ, ◌-ℤ◌, if◌then◌else◌, ◌==◌, not, All, filter, replicate, count_by, nat_abs}
+use Rattle.std.specs.Prelude.{ℤ, pos, negsuc, neg_ℤ, ◌-ℤ◌, if◌then◌else◌, All, filter, replicate, nat_abs}
 use Rattle.std.specs.List.{range_with_len, list_all}
 use Rattle.std.proofs.lemmas.Int.{ints}
 use Rattle.std.proofs.lemmas.Bool.{lt-leb}
@@ -9,31 +9,16 @@ use Rattle.std.proofs.lemmas.List.Elements.{All-head, All-tail, All-append, All-
 use Rattle.std.proofs.lemmas.List.FromFn.{length-range_with_len}
 use Rattle.std.proofs.lemmas.List.Sums.{length-filter, count_by-le-length}
 use Rattle.pop_net.specs.LeafModel.{IsLeaf}
-use Rattle.cert_base.specs.FactsAndCases.{differs}
 use Rattle.cert_base.specs.WeightedSums.{total}
 use Rattle.list_laws.proofs.Ranges.{all_range, range_next}
-use Rattle.comp_trees.proofs.HelperSums.{count-more, total-append}
+use Rattle.comp_trees.proofs.HelperSums.{total-append}
 use Rattle.comp_powers_leaf.specs.PowersLeaf.{has_bit}
 use Rattle.comp_powers_leaf.proofs.Bits.{more_bits, no_bits, all_bits, some_power}
-use Rattle.comp_flock.specs.FlockLeaf.{is_counted, flock_bound, says_enough, enough_for, size_in, flock_output, bit_states, offset_helpers, offset_helper_count, all_offset_helpers, flock_leaf_with, flock_leaf_of, offset_leaf_of, IsFlock, IsOffset}
+use Rattle.comp_counting.specs.FlockAtoms.{is_counted, flock_bound, says_enough, enough_for, IsFlock, IsOffset}
+use Rattle.comp_flock.specs.FlockLeaf.{size_in, bit_states, offset_helpers, offset_helper_count, all_offset_helpers, flock_leaf_with, flock_leaf_of, offset_leaf_of}
 use Rattle.comp_flock.specs.FlockProof.{full_size}
 use Rattle.comp_flock.proofs.Powers.{size-at}
 use Rattle.comp_flock.proofs.Starts.{flock-are, flock-sum}
-
--- ---- outputs
-
--- where there are enough, all outputs but that of 2^k are wrong, and else that of 2^k alone
-pub wrong-enough : (says : Bool) (k z : ℕ) → differs says (flock_output says k z) ≡ not (z == k + 1)
-wrong-enough true k z = refl
-wrong-enough false k z = refl
-
-pub wrong-too-few : (says : Bool) (k z : ℕ) → differs (not says) (flock_output says k z) ≡ (z == k + 1)
-wrong-too-few true k z = refl
-wrong-too-few false k z = twice (z == k + 1)
-  where
-    twice : (b : Bool) → not (not b) ≡ b
-    twice true = refl
-    twice false = refl
 
 -- ---- helpers
 
@@ -123,14 +108,6 @@ total-where f g (q ∷ qs) all =
     let here = All-head (λ q. f q ≡ g q) q qs all in
     let rest = total-where f g qs (All-tail (λ q. f q ≡ g q) q qs all) in
     omega (arith, ints, here, rest)
-
-pub count-none : (test : ℕ → Bool) (qs : List ℕ) → All (λ q. test q ≡ false) qs → count_by test qs ≡ 0
-count-none test [] all = refl
-count-none test (q ∷ qs) all =
-    let here = ap {B = ℕ} (λ (b : Bool). if b then 1 else 0) (All-head (λ q. test q ≡ false) q qs all) in
-    let rest = count-none test qs (All-tail (λ q. test q ≡ false) q qs all) in
-    let more = count-more test q qs in
-    omega (arith, here, rest, more)
 
 -- ---- what all nodes rest on
 

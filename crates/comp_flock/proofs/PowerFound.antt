@@ -1,17 +1,18 @@
 -- What is known of the power of a flock atom, with an offset or without.
-use Rattle.std.proofs.Common.{◌≡◌, ◌⊎◌, ◌∙◌, inl, inr, ℕ, zero, suc, ◌+◌, ◌^◌, ◌<◌, ◌≤◌, Bool, true, false, cond, List, refl, ap, sym, arith}
+use Rattle.std.proofs.Common.{◌≡◌, ◌⊎◌, ◌∙◌, inl, inr, ℕ, ◌+◌, ◌^◌, ◌<◌, ◌≤◌, Bool, true, false, List, refl, ap, sym, arith}
 use Rattle.std.specs.Prelude.{ℤ, Some, None, find, nat_le, if◌then◌else◌}
 use Rattle.std.specs.List.{range_with_len, list_all}
 use Rattle.std.specs.Ordering.{int_eq}
 use Rattle.std.proofs.lemmas.Bool.Decides.{Decides-int_eq}
-use Rattle.std.proofs.lemmas.Bool.{leb-true, le-leb, cases_eq, cases_lt}
+use Rattle.std.proofs.lemmas.Bool.{leb-true, le-leb, cases_lt}
 use Rattle.std.proofs.lemmas.Option.{slice_get_within, get_or_from_slice_get}
 use Rattle.std.proofs.lemmas.List.FromFn.{length-range_with_len, get_or-range_with_len}
 use Rattle.pop_net.proofs.Found.{find_some}
 use Rattle.pres_ast.specs.PredModel.{IsAtomSum}
-use Rattle.comp_flock.specs.declared.limits.TheConstants.{POWER_LIMIT}
+use Rattle.comp_counting.specs.declared.limits.TheConstants.{POWER_LIMIT}
 use Rattle.comp_flock.specs.OffsetLaw.{IsLeastPower}
-use Rattle.comp_flock.specs.FlockLeaf.{is_counted, is_flock_coefficient, flock_bound, power_of, says_enough, enough_for, offset_power, IsOffset}
+use Rattle.comp_counting.specs.FlockAtoms.{is_counted, is_flock_coefficient, flock_bound, power_of, says_enough, enough_for, offset_power, IsOffset}
+use Rattle.comp_counting.proofs.FirstFound.{find-first, find-any}
 
 pub record IsPower (coefs : List ℤ) (bound : ℤ) (k : ℕ) : Type 0 where
   pub are : list_all is_flock_coefficient coefs ≡ true
@@ -68,33 +69,6 @@ offset_power_is coefs bound k e = go (list_all (is_counted (says_enough bound) (
 
 pub offset_found : (coefs : List ℤ) (bound : ℤ) (k : ℕ) → IsAtomSum coefs → offset_power coefs bound ≡ Some k → IsOffset coefs bound k
 offset_found coefs bound k sum e = let is = offset_power_is coefs bound k e in record { sum = sum; are = is.are; high = is.high; within = is.within }
-
--- ---- what is found is the first
-
-pub find-first : (p : ℕ → Bool) (a n k : ℕ) → find p (range_with_len a n) ≡ Some k → (j : ℕ) → a ≤ j → j < k → p j ≡ false
-find-first p a zero k e j l m = absurd (let g : None ≡ Some k = e in cc)
-find-first p a (suc n) k e j l m = go (p a) refl e (λ f h. find-first p (a + 1) n k f j h m)
-  where
-    go : (b : Bool) → p a ≡ b → cond b (Some a) (find p (range_with_len (a + 1) n)) ≡ Some k → (find p (range_with_len (a + 1) n) ≡ Some k → a + 1 ≤ j → p j ≡ false) → p j ≡ false
-    go true h f rest = absurd (let g : Some a ≡ Some k = f in let same : a ≡ k = cc in omega (arith, same, l, m))
-    go false h f rest = elim (cases_eq a j) [
-      | inl g ↦ ap p (sym g) ∙ h
-      | inr g ↦ rest f (omega (arith, g, l))
-    ]
-
-pub find-in : (p : ℕ → Bool) (a n k : ℕ) → find p (range_with_len a n) ≡ Some k → p k ≡ true
-find-in p a n k e = (find_some p (range_with_len a n) k e).2
-
-pub find-any : (p : ℕ → Bool) (a n i : ℕ) → a ≤ i → i < a + n → p i ≡ true → (k : ℕ) × (find p (range_with_len a n) ≡ Some k)
-find-any p a zero i l m e = absurd (omega (arith, l, m))
-find-any p a (suc n) i l m e = go (p a) refl (λ h. find-any p (a + 1) n i h (omega (arith, m)) e)
-  where
-    go : (b : Bool) → p a ≡ b → (a + 1 ≤ i → (k : ℕ) × (find p (range_with_len (a + 1) n) ≡ Some k)) → (k : ℕ) × (cond b (Some a) (find p (range_with_len (a + 1) n)) ≡ Some k)
-    go true h rest = (a, refl)
-    go false h rest = elim (cases_eq a i) [
-      | inl g ↦ absurd (let f : true ≡ false = sym e ∙ ap p (sym g) ∙ h in cc)
-      | inr g ↦ rest (omega (arith, g, l))
-    ]
 
 pub offset_least : (coefs : List ℤ) (bound : ℤ) (k : ℕ) → offset_power coefs bound ≡ Some k → IsLeastPower (enough_for bound) k
 offset_least coefs bound k e = record {

@@ -1,6 +1,6 @@
 -- Powers of 2, and the sizes of states.
-use Rattle.std.proofs.Common.{◌≡◌, ◌⊎◌, ◌∙◌, inl, inr, ℕ, zero, suc, ◌+◌, ◌-◌, ◌^◌, ◌<◌, ◌≤◌, true, refl, ap, arith}
-use Rattle.std.specs.Prelude.{pos, ◌-ℤ◌, ◌*ℤ◌, int_le}
+use Rattle.std.proofs.Common.{◌≡◌, ◌⊎◌, ◌∙◌, inl, inr, ℕ, zero, suc, ◌+◌, ◌-◌, ◌^◌, ◌<◌, ◌≤◌, refl, ap, arith}
+use Rattle.std.specs.Prelude.{pos, ◌-ℤ◌, ◌*ℤ◌}
 use Rattle.std.specs.List.{range_with_len}
 use Rattle.std.proofs.lemmas.Int.{ints}
 use Rattle.std.proofs.Math.Pow.{pow-lt}
@@ -8,9 +8,8 @@ use Rattle.std.proofs.lemmas.Bool.{cases_lt, ne_eqb}
 use Rattle.comp_powers_leaf.proofs.Bits.{double, some_power, power-le}
 use Rattle.cert_base.specs.WeightedSums.{total}
 use Rattle.cert_base.proofs.FlowSums.{times-one}
-use Rattle.comp_flock.specs.declared.limits.TheConstants.{POWER_LIMIT}
+use Rattle.comp_counting.specs.declared.limits.TheConstants.{POWER_LIMIT}
 use Rattle.comp_flock.specs.FlockLeaf.{size_in}
-use Rattle.cert_base.proofs.WeightedSums.{le-test}
 
 pub power_small : (k : ℕ) → k ≤ POWER_LIMIT → 2 ^ k ≤ 2 ^ POWER_LIMIT
 power_small k l = power-le k POWER_LIMIT l
@@ -58,7 +57,3 @@ sizes-total a (suc n) =
     let twice = double a in
     let same : 2 ^ (a + suc n) ≡ 2 ^ (a + 1 + n) = ap (λ m. 2 ^ m) (let e : a + suc n ≡ a + 1 + n = omega arith in e) in
     omega (arith, ints, rest, here, size, twice, same)
-
--- a number that is no less than 0
-pub zero_le : (n : ℕ) → int_le (pos 0) (pos n) ≡ true
-zero_le n = le-test (pos 0) (pos n) (omega (arith, ints))

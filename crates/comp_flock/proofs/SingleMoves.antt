@@ -6,8 +6,10 @@ use Rattle.pop_net.specs.LeafModel.{same_pair}
 use Rattle.pop_net.specs.Reaction.{Differ}
 use Rattle.comp_trees.proofs.SortedLayers.{AllPairs-append}
 use Rattle.comp_trees.proofs.Single.{pairs_map, differ-by}
-use Rattle.comp_flock.specs.FlockLeaf.{doubling_move, conversion_move, flock_moves}
-use Rattle.comp_flock.proofs.MoveLists.{all_doublings, all_conversions, differ_pair}
+use Rattle.comp_flock.specs.FlockLeaf.{doubling_move, flock_moves}
+use Rattle.comp_counting.specs.FullState.{conversion_move}
+use Rattle.comp_flock.proofs.MoveLists.{all_doublings}
+use Rattle.comp_counting.proofs.Conversions.{all_conversions, differ_pair}
 
 -- the first state of the second pair isn't in the first pair
 differ_first : (p q u v : ℕ) → p ≢ u → q ≢ u → same_pair p q u v ≡ false

@@ -4,7 +4,7 @@ use Rattle.std.specs.List.{range_with_len}
 use Rattle.std.proofs.lemmas.Fmt.{decimal_injective}
 use Rattle.pop_io.specs.Names.{state_name, AreNames}
 use Rattle.comp_trees.proofs.StateNames.{number-named, named-apart}
-use Rattle.comp_flock.specs.declared.limits.TheConstants.{POWER_LIMIT}
+use Rattle.comp_counting.specs.declared.limits.TheConstants.{POWER_LIMIT}
 use Rattle.comp_flock.specs.FlockLeaf.{size_in, flock_state_name}
 use Rattle.comp_flock.proofs.Powers.{size-le, size-injective, power_small}
 

@@ -1,36 +1,21 @@
 -- How many steps per agent the layer of a built leaf of a flock atom allows.
-use Rattle.std.proofs.Common.{◌≡◌, ◌∙◌, inl, inr, ℕ, zero, suc, ◌+◌, ◌<◌, ◌≤◌, Bool, true, false, [], refl, ap, arith}
-use Rattle.std.specs.Prelude.{pos, ◌≤ℤ◌, ◌==◌, if◌then◌else◌}
+use Rattle.std.proofs.Common.{◌≡◌, ◌∙◌, inl, inr, ℕ, ◌+◌, ◌≤◌, true, false, [], refl, ap, arith}
+use Rattle.std.specs.Prelude.{pos, ◌==◌}
 use Rattle.std.specs.List.{range_with_len}
-use Rattle.std.proofs.lemmas.Int.{ints}
 use Rattle.std.proofs.lemmas.Bool.{cases_eq, eq-eqb, ne_eqb}
 use Rattle.std.proofs.lemmas.List.Sums.{sum_by-cons}
 use Rattle.cert_base.specs.declared.layer.Layer.{Layer}
 use Rattle.cert_base.specs.ProofBound.{weights_spread, layers_bound}
 use Rattle.cert_base.proofs.WeightBounds.{spread_of}
-use Rattle.comp_flock.specs.FlockLeaf.{flock_state_count}
-use Rattle.comp_flock.specs.FlockProof.{flock_weight, flock_layers_of, for_states, offset_steps}
-use Rattle.comp_flock.proofs.Layers.{weight-full, weight-power}
-
-pub weight_within : (k q : ℕ) → (pos 0 ≤ℤ flock_weight k q) × (flock_weight k q ≤ℤ pos 2)
-weight_within k q = by (q == 0) (q == k + 1)
-  where
-    by : (a b : Bool) → (pos 0 ≤ℤ (if a then pos 1 else (if b then pos 0 else pos 2))) × ((if a then pos 1 else (if b then pos 0 else pos 2)) ≤ℤ pos 2)
-    by true b = (omega (arith, ints), omega (arith, ints))
-    by false true = (omega (arith, ints), omega (arith, ints))
-    by false false = (omega (arith, ints), omega (arith, ints))
+use Rattle.comp_counting.specs.FullState.{flock_state_count, flock_weight, for_states, offset_steps}
+use Rattle.comp_flock.specs.FlockProof.{flock_layers_of}
+use Rattle.comp_counting.proofs.LayerWeights.{weight-full, weight-power, weight_within, none-within}
 
 pub steps_are : (k : ℕ) → 1 ≤ k → layers_bound (flock_layers_of k) ≡ 2
 steps_are k some =
     let spread : weights_spread (for_states k (flock_weight k)) ≡ 2 = spread_of (flock_weight k) (flock_state_count k) (pos 0) (pos 2) (k + 1) 1 (omega arith) (omega (arith, some)) (weight-full k) (weight-power k 0 (omega (arith, some))) (λ q l. weight_within k q) in
     let sum : layers_bound (flock_layers_of k) ≡ weights_spread (for_states k (flock_weight k)) + 0 = sum_by-cons (λ (layer : Layer). weights_spread layer.weights) (record { moves = range_with_len 0 (k + (k + 1)); weights = for_states k (flock_weight k) }) [] in
     omega (arith, spread, sum)
-
--- without a doubling: 2^k is 1, and the other state is `0`
-pub none-within : (q : ℕ) → q < 2 → (pos 0 ≤ℤ flock_weight 0 q) × (flock_weight 0 q ≤ℤ pos 1)
-none-within zero l = (omega (arith, ints), omega (arith, ints))
-none-within (suc zero) l = (omega (arith, ints), omega (arith, ints))
-none-within (suc (suc q)) l = absurd (omega arith)
 
 no_steps : layers_bound (flock_layers_of 0) ≡ 1
 no_steps =

@@ -22,20 +22,24 @@ use Rattle.cert_base.specs.WeightedSums.{sum_of_facts, coefficient, constant_of,
 use Rattle.cert_base.proofs.FlowSums.{times-one, mul-neg, one-times}
 use Rattle.comp_trees.proofs.LeaderEnds.{is_wrong}
 use Rattle.comp_trees.proofs.TrapNodes.{places-all}
-use Rattle.comp_flock.specs.FlockLeaf.{says_enough, enough_for, size_in, flock_state_name, flock_start, doubling_move, conversion_move, flock_moves, flock_leaf_with}
-use Rattle.comp_flock.specs.FlockProof.{lesser_size, first_mix, offset_pred_of}
-use Rattle.comp_flock.proofs.Powers.{size-power, size-at, zero_le}
-use Rattle.comp_flock.proofs.MoveLists.{all_moves, all_doublings, all_conversions}
+use Rattle.comp_counting.specs.FlockAtoms.{says_enough, enough_for, offset_pred_of}
+use Rattle.comp_flock.specs.FlockLeaf.{size_in, flock_state_name, doubling_move, flock_moves, flock_leaf_with}
+use Rattle.comp_counting.specs.FullState.{flock_start, conversion_move}
+use Rattle.comp_flock.specs.FlockProof.{lesser_size, first_mix}
+use Rattle.comp_flock.proofs.Powers.{size-power, size-at}
+use Rattle.comp_counting.proofs.Numbers.{zero_le}
+use Rattle.comp_flock.proofs.MoveLists.{all_moves, all_doublings}
+use Rattle.comp_counting.proofs.Conversions.{all_conversions}
 use Rattle.comp_flock.proofs.Formed.{states-long}
 use Rattle.comp_trees.specs.LeaderTree.{mix_over}
 use Rattle.comp_trees.proofs.Mixes.{IsPlain, all_facts, IsLow, mix_closes}
 use Rattle.comp_trees.proofs.TakenMoves.{taken-before, taken-move, taken-past}
 use Rattle.comp_powers_leaf.proofs.Bits.{double}
-use Rattle.comp_flock.proofs.OwnFacts.{places-none}
-use Rattle.comp_flock.proofs.Opened.{opened_row, opened_constant, too-few-constant}
+use Rattle.comp_counting.proofs.OwnFacts.{places-none}
+use Rattle.comp_counting.proofs.Opened.{opened_row, opened_constant, too-few-constant}
 use Rattle.comp_flock.proofs.Starts.{IsStart, start-at}
 use Rattle.comp_flock.proofs.Offsets.{total-where, IsFilled}
-use Rattle.comp_flock.proofs.FullNodes.{full, in-yes, in-no, or_yes, IsCounting, row-at, start-of}
+use Rattle.comp_counting.proofs.FullNodes.{full, in-yes, in-no, or_yes, IsCounting, row-at, start-of}
 use Rattle.comp_flock.proofs.EnoughNodes.{is_plain, is-counting}
 
 -- whether a move puts into the set, and takes from it

@@ -12,8 +12,10 @@ use Rattle.cert_base.specs.Closes.{Closes}
 use Rattle.cert_base.specs.ValidProof.{ValidLeafProof}
 use Rattle.cert_base.specs.ProofLimits.{IsLeafProofWithin, AreNodesWithin}
 use Rattle.comp_trees.specs.BuiltLeaf.{IsBuilt}
-use Rattle.comp_flock.specs.FlockLeaf.{says_enough, enough_for, all_offset_helpers, flock_bound, flock_leaf_of, offset_leaf_of, IsFlock, IsOffset, HasSpareRoom}
-use Rattle.comp_flock.specs.FlockProof.{full_size, flock_layers_of, flock_tree, flock_steps, flock_pred_of, offset_steps, offset_pred_of, offset_part, flock_part}
+use Rattle.comp_counting.specs.FlockAtoms.{says_enough, enough_for, flock_bound, IsFlock, IsOffset, flock_pred_of, offset_pred_of}
+use Rattle.comp_flock.specs.FlockLeaf.{all_offset_helpers, flock_leaf_of, offset_leaf_of, HasSpareRoom}
+use Rattle.comp_flock.specs.FlockProof.{full_size, flock_layers_of, flock_tree, offset_part, flock_part}
+use Rattle.comp_counting.specs.FullState.{flock_steps, offset_steps}
 use Rattle.comp_flock.proofs.Powers.{power_small}
 use Rattle.comp_flock.proofs.Starts.{full-least, full-most, full-covers}
 use Rattle.comp_flock.proofs.Formed.{offset-formed}

@@ -1,39 +1,24 @@
 -- FlockProof: the layer, the trees and the whole proof for a built leaf of a flock atom, with an offset or without. The
 -- state 2^k is state k + 1.
-use Rattle.std.specs.Prelude.{ℕ, ◌+◌, ◌^◌, ◌==◌, if◌then◌else◌, Bool, true, false, not, List, [], ◌∷◌, ◌++◌, map}
-use Rattle.std.specs.Prelude.{length, replicate, ℤ, pos, negsuc, neg_ℤ, nat_abs, nat_le}
+use Rattle.std.specs.Prelude.{ℕ, ◌+◌, ◌^◌, ◌==◌, if◌then◌else◌, Bool, true, false, not, List, [], ◌∷◌, ◌++◌, map, ℤ}
+use Rattle.std.specs.Prelude.{pos, neg_ℤ, nat_abs, nat_le}
 use Rattle.std.specs.List.{range_with_len, list_all}
-use Rattle.pres_ast.specs.PredTree.{LessThan}
-use Rattle.pres_ast.specs.PredModel.{PredModel}
 use Rattle.cert_base.specs.declared.layer.Layer.{Layer}
 use Rattle.cert_base.specs.declared.node.Node.{Node}
-use Rattle.cert_base.specs.declared.node.Node.TheVariants.{Present, Twin, Siphon, Open}
+use Rattle.cert_base.specs.declared.node.Node.TheVariants.{Present, Twin, Open}
 use Rattle.cert_base.specs.declared.proof.LeafProof.{LeafProof}
-use Rattle.cert_base.specs.Rows.{zeros}
 use Rattle.comp_trees.specs.LeaderTree.{weighed_node, mix_over}
-use Rattle.comp_flock.specs.FlockLeaf.{flock_bound, says_enough, enough_for, size_in, flock_state_count}
-use Rattle.comp_flock.specs.declared.limits.TheConstants.{POWER_LIMIT}
+use Rattle.comp_counting.specs.FlockAtoms.{flock_bound, says_enough, enough_for, offset_pred_of}
+use Rattle.comp_flock.specs.FlockLeaf.{size_in}
+use Rattle.comp_counting.specs.FullState.{flock_state_count, counting_layers, for_states, converted_mix, full_tree}
+use Rattle.comp_counting.specs.declared.limits.TheConstants.{POWER_LIMIT}
 
 -- ---- the layer
-
-abbrev pub flock_weight : ℕ → ℕ → ℤ
-flock_weight k q = if q == 0 then pos 1 else (if q == k + 1 then pos 0 else pos 2)
-
--- this many moves, in one layer
-abbrev pub counting_layers : ℕ → ℕ → List Layer
-counting_layers count k =
-    record {
-      moves = range_with_len 0 count;
-      weights = map (flock_weight k) (range_with_len 0 (flock_state_count k));
-    } ∷ []
 
 abbrev pub flock_layers_of : ℕ → List Layer
 flock_layers_of k = counting_layers (k + (k + 1)) k
 
 -- ---- the nodes
-
-abbrev pub for_states : ℕ → (ℕ → ℤ) → List ℤ
-for_states k value = map value (range_with_len 0 (flock_state_count k))
 
 abbrev pub lesser_size : ℕ → ℕ → ℤ
 lesser_size k q = if q == k + 1 then pos 0 else pos (size_in q)
@@ -51,21 +36,9 @@ few_mix full k =
     mix_over (for_states k (λ q. neg_ℤ (pos (greatest_size full k q)))) (pos 0) (pos 1)
     (neg_ℤ (pos full) ∷ map (λ q. pos (greatest_size full k q)) (range_with_len 1 k))
 
--- at the end there is no state but 2^k
-abbrev pub converted_mix : ℕ → List ℤ
-converted_mix k = mix_over (zeros (flock_state_count k)) (pos 1) (pos 0) (pos 0 ∷ replicate (k + 1) (negsuc 0))
-
 -- the first 2^k takes 2^k agents
 abbrev pub first_mix : ℕ → List ℤ
 first_mix k = mix_over (for_states k (lesser_size k)) (pos 0) (pos 1) (pos (2 ^ k) ∷ [])
-
--- an agent that starts as 2^k is enough
-abbrev pub start_mix : ℕ → ℕ → List ℤ
-start_mix c k = mix_over (zeros (flock_state_count k)) (pos 0) (pos 1) (pos c ∷ [])
-
--- 2^k never occurred, so no output is true
-abbrev pub never_mix : ℕ → List ℤ
-never_mix k = mix_over (zeros (flock_state_count k)) (pos 1) (pos 0) (zeros (k + 1) ++ negsuc 0 ∷ [])
 
 -- ---- the trees: where there are enough, 2^k is absent at the end, or present; where there aren't, 2^k was put in
 -- while absent, or was present at the start, or never occurred
@@ -73,12 +46,6 @@ abbrev pub enough_tree : ℕ → ℕ → List Node
 enough_tree full k =
     (Open (flock_state_count k + 1) ∷ Present (k + 1) ∷ map Twin (range_with_len 1 k))
     ++ weighed_node (few_mix full k) ∷ weighed_node (converted_mix k) ∷ []
-
--- by the node of the first agent in state k + 1
-abbrev pub full_tree : ℕ → ℕ → List ℤ → List Node
-full_tree c k first =
-    Open (flock_state_count k + 1) ∷ Siphon ((k + 1) ∷ []) ∷ weighed_node first ∷ weighed_node (start_mix c k)
-    ∷ weighed_node (never_mix k) ∷ []
 
 abbrev pub too_few_tree : ℕ → ℕ → List Node
 too_few_tree c k = full_tree c k (first_mix k)
@@ -88,19 +55,6 @@ flock_tree true full c k = enough_tree full k
 flock_tree false full c k = too_few_tree c k
 
 -- ---- the whole proof of the leaf
-
--- how many steps per agent the proof allows; without a doubling one is enough
-abbrev pub flock_steps : ℕ
-flock_steps = 2
-
-abbrev pub offset_steps : ℕ → ℕ
-offset_steps k = if k == 0 then 1 else flock_steps
-
-abbrev pub offset_pred_of : List ℤ → ℤ → PredModel
-offset_pred_of coefs bound = record { variables = length coefs; tree = LessThan coefs bound }
-
-abbrev pub flock_pred_of : List ℤ → ℕ → PredModel
-flock_pred_of coefs k = offset_pred_of coefs (flock_bound k)
 
 abbrev pub offset_part : List ℤ → ℤ → ℕ → LeafProof
 offset_part coefs bound k =

@@ -7,9 +7,9 @@ use Rattle.pop_net.specs.Reaction.{Differ}
 use Rattle.pres_ast.specs.PredModel.{IsAtomSum}
 use Rattle.cert_base.specs.ValidProof.{ValidLeafProof}
 use Rattle.cert_base.specs.ProofLimits.{IsLeafProofWithin}
-use Rattle.comp_flock.specs.declared.limits.TheConstants.{POWER_LIMIT}
-use Rattle.comp_flock.specs.FlockLeaf.{is_counted, says_enough, enough_for, offset_power, IsOffset, HasSpareRoom}
-use Rattle.comp_flock.specs.FlockLeaf.{offset_leaf_of}
+use Rattle.comp_counting.specs.declared.limits.TheConstants.{POWER_LIMIT}
+use Rattle.comp_counting.specs.FlockAtoms.{is_counted, says_enough, enough_for, offset_power, IsOffset}
+use Rattle.comp_flock.specs.FlockLeaf.{HasSpareRoom, offset_leaf_of}
 use Rattle.comp_flock.specs.FlockProof.{offset_part}
 
 pub record IsOffsetRight (coefs : List ℤ) (bound : ℤ) (k spare : ℕ) : Type 0 where

@@ -2,8 +2,9 @@
 
 ghost use Rattle.std.specs.Prelude.{◌≡◌, ◌<◌, ◌≤◌, ◌+◌, map, IfOk};
 ghost use Rattle.std.specs.List.{range_with_len};
-ghost use Rattle.comp_flock.specs.declared.limits.TheConstants.{POWER_LIMIT};
-ghost use Rattle.comp_flock.specs.FlockLeaf.{doubling_move, conversion_move, flock_moves};
+ghost use Rattle.comp_counting.specs.declared.limits.TheConstants.{POWER_LIMIT};
+ghost use Rattle.comp_flock.specs.FlockLeaf.{doubling_move, flock_moves};
+ghost use Rattle.comp_counting.specs.FullState.{conversion_move};
 
 use pop_io::NoMemory;
 use pop_net::Move;

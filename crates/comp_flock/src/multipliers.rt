@@ -2,8 +2,9 @@
 
 ghost use Rattle.std.specs.Prelude.{◌≡◌, ◌≤◌, ◌≤ℤ◌, ◌+◌, ◌^◌, map, pos, neg_ℤ, IfOk};
 ghost use Rattle.std.specs.List.{range_with_len};
-ghost use Rattle.comp_flock.specs.declared.limits.TheConstants.{POWER_LIMIT};
-ghost use Rattle.comp_flock.specs.FlockLeaf.{size_in, flock_state_count};
+ghost use Rattle.comp_counting.specs.declared.limits.TheConstants.{POWER_LIMIT};
+ghost use Rattle.comp_flock.specs.FlockLeaf.{size_in};
+ghost use Rattle.comp_counting.specs.FullState.{flock_state_count};
 ghost use Rattle.comp_flock.specs.FlockProof.{lesser_size, greatest_size, few_mix, first_mix};
 
 use crate::naming::size_of;

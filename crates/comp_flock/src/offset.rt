@@ -1,33 +1,14 @@
-//! What an atom says, and the helpers of its leaf.
+//! The helpers of a leaf.
 
 ghost use Rattle.std.specs.Prelude.{◌≡◌, ◌≤◌, ◌-◌, ◌^◌, ◌++◌, length, replicate, if◌then◌else◌, IfOk};
 ghost use Rattle.comp_powers_leaf.specs.PowersLeaf.{has_bit};
-ghost use Rattle.comp_flock.specs.declared.limits.TheConstants.{POWER_LIMIT};
-ghost use Rattle.comp_flock.specs.FlockLeaf.{says_enough as says_of, enough_for as enough_of, bit_states};
-ghost use Rattle.comp_flock.specs.FlockLeaf.{offset_helper_count as count_of};
+ghost use Rattle.comp_counting.specs.declared.limits.TheConstants.{POWER_LIMIT};
+ghost use Rattle.comp_flock.specs.FlockLeaf.{bit_states, offset_helper_count as count_of};
 
+use comp_counting::enough_for;
 use comp_powers_leaf::{is_set, two_to};
 use pop_io::NoMemory;
 use std::alloc::Global;
-
-/// Whether an atom with this bound says that there are enough; else it denies it.
-#[tactic(auto, using(crate::proofs::Opened::none_or_less))]
-pub fn says_enough(bound: i64) -> bool
-    ensures { result ≡ says_of bound }
-{
-    bound <= 0
-}
-
-/// How many are enough.
-pub fn enough_for(bound: i64) -> u64
-    ensures { result ≡ enough_of bound }
-{
-    if bound > 0 {
-        bound as u64
-    } else {
-        bound.unsigned_abs() + 1
-    }
-}
 
 /// How many agents the helpers stand for.
 pub(crate) fn missing(enough: u64, power: u16) -> u64

@@ -3,14 +3,15 @@
 ghost use Rattle.std.specs.Prelude.{◌≡◌, ◌≤◌, ◌^◌, ◌++◌, map, nat_abs, nat_le, IfOk, OnOk};
 ghost use Rattle.std.specs.List.{range_with_len, list_all};
 ghost use Rattle.cert_base.specs.declared.node.Node.TheVariants.{Twin as twin_node};
-ghost use Rattle.comp_flock.specs.declared.limits.TheConstants.{POWER_LIMIT};
+ghost use Rattle.comp_counting.specs.declared.limits.TheConstants.{POWER_LIMIT};
 ghost use Rattle.comp_flock.specs.FlockProof.{enough_tree as tree_of_enough, too_few_tree as tree_of_few, flock_tree};
 ghost use Rattle.comp_flock.specs.FlockProof.{full_size as full_size_of};
 
-use crate::full::{converted_node, full_tree, node, opened_number};
-use crate::limits::POWER_LIMIT as GREATEST_POWER;
 use crate::multipliers::{few, first};
 use cert_base::Node;
+use comp_counting::{
+    POWER_LIMIT as GREATEST_POWER, converted_node, full_tree, node, opened_number,
+};
 use comp_powers_leaf::two_to;
 use pop_io::{List, NoMemory};
 use std::alloc::Global;

@@ -1,31 +1,28 @@
 //! The leaf with its proof.
 
-ghost use Rattle.std.specs.Prelude.{◌≡◌, IfOk};
+ghost use Rattle.std.specs.Prelude.{◌≡◌, ◌≤◌, IfOk};
 ghost use Rattle.comp_trees.specs.BuiltLeaf.{IsBuilt};
-ghost use Rattle.comp_flock.specs.FlockLeaf.{IsFlock, flock_leaf_of, IsOffset, HasSpareRoom, offset_leaf_of};
-ghost use Rattle.comp_flock.specs.FlockProof.{flock_steps, flock_pred_of, offset_part, offset_steps, offset_pred_of};
+ghost use Rattle.comp_counting.specs.FlockAtoms.{IsFlock, IsOffset, flock_pred_of, offset_pred_of};
+ghost use Rattle.comp_flock.specs.FlockLeaf.{flock_leaf_of, HasSpareRoom, offset_leaf_of};
+ghost use Rattle.comp_counting.specs.FullState.{flock_steps, offset_steps};
+ghost use Rattle.comp_flock.specs.FlockProof.{flock_layers_of, offset_part};
+ghost use Rattle.comp_counting.specs.declared.limits.TheConstants.{POWER_LIMIT};
 
 use crate::leaf::flock_leaf;
-use crate::offset::{enough_for, says_enough};
-use crate::power::bound_of_power;
 use crate::trees::tree;
-use crate::weights::flock_layers;
-use cert_base::LeafProof;
+use cert_base::{Layer, LeafProof};
+use comp_counting::{bound_of_power, counting_layers, enough_for, offset_pred, says_enough};
 use pop_io::{List, NoMemory};
 use pop_net::Leaf;
-use pres_ast::{Pred, Tree};
 use std::alloc::Global;
 
-/// The atom as a predicate.
-pub fn offset_pred(alloc: Global, coefs: &[i64], bound: i64, power: u32) -> Result<Pred, NoMemory>
-    requires { IsOffset coefs.now bound power }
-    ensures { IfOk result (λ pred. pred ≡ offset_pred_of coefs.now bound) }
+/// All moves in one layer.
+fn flock_layers(alloc: Global, power: u16) -> Result<List<Layer>, NoMemory>
+    requires { power ≤ POWER_LIMIT }
+    ensures { IfOk result (λ layers. layers ≡ flock_layers_of power) }
 {
-    let tree = Tree::Less {
-        coefs: List::from_vec(Vec::from_slice(alloc, coefs)?),
-        bound,
-    };
-    Ok(Pred::new(coefs.len() as u16, tree))
+    let doublings = u32::from(power);
+    counting_layers(alloc, doublings + (doublings + 1), power)
 }
 
 fn leaf_proof(alloc: Global, coefs: &[i64], bound: i64, power: u32) -> Result<LeafProof, NoMemory>

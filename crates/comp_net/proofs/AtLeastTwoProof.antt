@@ -8,8 +8,9 @@ use Rattle.std.proofs.lemmas.List.Kept.{AllPairs-cons}
 use Rattle.pop_io.specs.Names.{AreNames, variable_name}
 use Rattle.pop_net.specs.NetModel.{NetModel}
 use Rattle.pop_checker.specs.Computes.{Computes}
-use Rattle.comp_flock.specs.FlockLeaf.{IsFlock, flock_leaf_of}
-use Rattle.comp_flock.specs.FlockProof.{flock_pred_of, flock_part}
+use Rattle.comp_counting.specs.FlockAtoms.{IsFlock, flock_pred_of}
+use Rattle.comp_flock.specs.FlockLeaf.{flock_leaf_of}
+use Rattle.comp_flock.specs.FlockProof.{flock_part}
 use Rattle.comp_flock.proofs.Small.{flock_is_pred}
 use Rattle.comp_flock.proofs.Steps.{steps_are}
 use Rattle.comp_flock.proofs.Valid.{flock-valid, flock-within}

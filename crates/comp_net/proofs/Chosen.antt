@@ -13,8 +13,8 @@ use Rattle.comp_threshold.specs.ThresholdLeaf.{threshold_width}
 use Rattle.comp_threshold.specs.declared.fault.ThresholdFault.{ThresholdFault}
 use Rattle.comp_threshold.specs.declared.fault.ThresholdFault.TheVariants.{TooWide}
 use Rattle.comp_threshold.specs.Built.{IsWidthFault}
-use Rattle.comp_flock.specs.FlockLeaf.{power_of, offset_power, IsOffset}
-use Rattle.comp_flock.specs.declared.limits.TheConstants.{POWER_LIMIT}
+use Rattle.comp_counting.specs.FlockAtoms.{power_of, offset_power, IsOffset}
+use Rattle.comp_counting.specs.declared.limits.TheConstants.{POWER_LIMIT}
 use Rattle.comp_flock.proofs.Offsets.{helpers-most}
 use Rattle.comp_flock.proofs.PowerFound.{IsPower, power_is, IsOffsetPower, offset_power_is}
 use Rattle.comp_prefix.specs.PrefixLeaf.{IsPrefix, prefix_top}

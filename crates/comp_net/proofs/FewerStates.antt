@@ -5,7 +5,7 @@ use Rattle.std.specs.Prelude.{ℤ, pos, negsuc, nat_abs, nat_le}
 use Rattle.std.specs.List.{range_with_len, list_all}
 use Rattle.std.proofs.lemmas.Bool.{and_parts, leb-true, cases_lt}
 use Rattle.pop_net.proofs.Found.{find_some}
-use Rattle.comp_flock.specs.FlockLeaf.{enough_for}
+use Rattle.comp_counting.specs.FlockAtoms.{enough_for}
 use Rattle.comp_flock.proofs.PowerFound.{offset_least}
 use Rattle.comp_powers_leaf.specs.declared.limits.TheConstants.{RANGE_LIMIT}
 use Rattle.comp_powers_leaf.specs.PowersRange.{bound_size, suffices}

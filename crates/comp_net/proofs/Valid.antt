@@ -30,7 +30,9 @@ use Rattle.comp_threshold.proofs.Single.{moves-single as threshold_single}
 use Rattle.comp_remainder.specs.RemainderLeaf.{remainder_state_name}
 use Rattle.comp_remainder.proofs.Formed.{remainder-formed}
 use Rattle.comp_remainder.proofs.SingleMoves.{moves-single as remainder_single}
-use Rattle.comp_flock.specs.FlockLeaf.{enough_for, flock_start, flock_state_name, offset_helpers, offset_helper_count}
+use Rattle.comp_counting.specs.FlockAtoms.{enough_for}
+use Rattle.comp_counting.specs.FullState.{flock_start}
+use Rattle.comp_flock.specs.FlockLeaf.{flock_state_name, offset_helpers, offset_helper_count}
 use Rattle.comp_flock.proofs.Formed.{flock-formed, offset-formed}
 use Rattle.comp_flock.proofs.SingleMoves.{moves-single as flock_single}
 use Rattle.comp_prefix.specs.PrefixLeaf.{last_place}

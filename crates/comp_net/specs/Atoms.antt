@@ -1,7 +1,6 @@
 -- Atoms: the atoms of a predicate's tree from left to right, the tree in postfix, and which leaf an atom gets.
-use Rattle.std.specs.Prelude.{◌≡◌, ℕ, ◌+◌, max, ◌≤◌, Bool, true, false, ◌&&◌, if◌then◌else◌, is_some, List}
-use Rattle.std.specs.Prelude.{[], ◌∷◌, ◌++◌, ℤ, nat_abs, length, Option}
-use Rattle.std.specs.Prelude.{Some, None}
+use Rattle.std.specs.Prelude.{◌≡◌, ℕ, ◌+◌, max, ◌≤◌, Bool, true, false, ◌&&◌, if◌then◌else◌, is_some, List, [], ◌∷◌}
+use Rattle.std.specs.Prelude.{◌++◌, ℤ, nat_abs, length, Option, Some, None}
 use Rattle.pop_io.specs.declared.names.TheConstants.{VARIABLE_LIMIT}
 use Rattle.pop_net.specs.declared.net.Item.{Item}
 use Rattle.pop_net.specs.declared.net.Item.TheVariants.{Leaf, Not, And, Or}
@@ -12,7 +11,9 @@ use Rattle.pres_ast.specs.PredTree.{PredTree, LessThan, Congruent, Negation, Con
 use Rattle.comp_threshold.specs.declared.limits.TheConstants.{WIDTH_LIMIT}
 use Rattle.comp_threshold.specs.ThresholdLeaf.{threshold_width}
 use Rattle.comp_remainder.specs.RemainderLeaf.{remainder_state_count}
-use Rattle.comp_flock.specs.FlockLeaf.{power_of, offset_power, flock_state_count, offset_helper_count}
+use Rattle.comp_counting.specs.FlockAtoms.{power_of, offset_power}
+use Rattle.comp_counting.specs.FullState.{flock_state_count}
+use Rattle.comp_flock.specs.FlockLeaf.{offset_helper_count}
 use Rattle.comp_prefix.specs.PrefixLeaf.{prefix_top, bound_worths}
 use Rattle.comp_powers_leaf.specs.PowersLeaf.{roles, powers_helper_count}
 use Rattle.comp_powers_leaf.specs.PowersRange.{powers_range}

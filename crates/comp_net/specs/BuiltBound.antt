@@ -3,7 +3,7 @@ use Rattle.std.specs.Prelude.{ℕ, List, ℤ, sum_by}
 use Rattle.pres_ast.specs.PredTree.{PredTree, LessThan, Congruent, Negation, Conjunction, Disjunction}
 use Rattle.comp_threshold.specs.Built.{threshold_steps}
 use Rattle.comp_remainder.specs.RemainderProof.{remainder_steps}
-use Rattle.comp_flock.specs.FlockProof.{flock_steps, offset_steps}
+use Rattle.comp_counting.specs.FullState.{flock_steps, offset_steps}
 use Rattle.comp_prefix.specs.PrefixLeaf.{last_place}
 use Rattle.comp_powers.specs.PowersProof.{powers_steps}
 use Rattle.comp_net.specs.Atoms.{atoms, less_leaf_for, leaves_for}

@@ -1,6 +1,7 @@
 -- Smaller: of two leaves that an atom may have in a succinct net, a flock with an offset has fewer states than powers.
 use Rattle.std.specs.Prelude.{◌≡◌, ◌<◌, ℕ, List, ℤ, length, Some}
-use Rattle.comp_flock.specs.FlockLeaf.{offset_power, flock_state_count}
+use Rattle.comp_counting.specs.FlockAtoms.{offset_power}
+use Rattle.comp_counting.specs.FullState.{flock_state_count}
 use Rattle.comp_prefix.specs.PrefixLeaf.{prefix_top, bound_worths}
 use Rattle.comp_powers_leaf.specs.PowersLeaf.{roles}
 use Rattle.comp_powers_leaf.specs.PowersRange.{powers_range}

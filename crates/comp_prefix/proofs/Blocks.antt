@@ -10,7 +10,7 @@ use Rattle.cert_base.specs.FactsAndCases.{indicator, absent_fact, not_twice}
 use Rattle.cert_base.specs.WeightedSums.{coefficient, total}
 use Rattle.cert_base.proofs.FlowSums.{total-same, total-neg, mul-neg, times-one}
 use Rattle.comp_trees.proofs.LeaderEnds.{absent-at}
-use Rattle.comp_flock.proofs.OwnFacts.{not_twice-at}
+use Rattle.comp_counting.proofs.OwnFacts.{not_twice-at}
 use Rattle.comp_prefix.proofs.WorthLaws.{total-split}
 
 pub range-none : (f : ℕ → ℤ) (a m : ℕ) → ((q : ℕ) → a ≤ q → q < a + m → f q ≡ pos 0) → total f (range_with_len a m) ≡ pos 0

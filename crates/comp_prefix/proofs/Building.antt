@@ -17,18 +17,18 @@ use Rattle.cert_base.specs.ProofLimits.{IsLeafProofWithin}
 use Rattle.cert_base.specs.ValidProof.{ValidLeafProof}
 use Rattle.pop_net.specs.Reaction.{Differ}
 use Rattle.comp_trees.specs.BuiltLeaf.{IsBuilt}
-use Rattle.comp_flock.specs.FlockLeaf.{enough_for}
-use Rattle.comp_flock.specs.FlockProof.{offset_pred_of, offset_steps}
+use Rattle.comp_counting.specs.FlockAtoms.{enough_for, offset_pred_of}
+use Rattle.comp_counting.specs.FullState.{offset_steps}
 use Rattle.comp_prefix.proofs.Layers.{steps-are}
 use Rattle.comp_prefix.proofs.Valid.{prefix-right}
-use Rattle.comp_flock.proofs.Within.{mix-long}
+use Rattle.comp_counting.proofs.Within.{mix-long}
 use Rattle.comp_prefix.specs.PrefixProof.{lost_worth, lesser_worth, kept_worth, ruled_worth, own_worth, with_mix, without_mix, first_mix, prefix_nodes, prefix_tree, bound_tree, prefix_part}
 use Rattle.comp_prefix.proofs.Within.{company-short}
 use Rattle.cert_base.specs.declared.node.Node.{Node}
 use Rattle.cert_base.specs.declared.node.Node.TheVariants.{Present}
 use Rattle.comp_trees.proofs.TreeOfEnds.{reverse-cons, nodes-flat}
 use Rattle.comp_powers_leaf.specs.PowersLeaf.{has_bit}
-use Rattle.comp_flock.specs.declared.limits.TheConstants.{POWER_LIMIT}
+use Rattle.comp_counting.specs.declared.limits.TheConstants.{POWER_LIMIT}
 use Rattle.comp_prefix.specs.PrefixLeaf.{prefixes, worths, bound_worths, last_place, prefix_leaf_of, AreWorths, IsPrefix}
 use Rattle.comp_prefix.proofs.WorthLaws.{no-more}
 use Rattle.comp_prefix.proofs.Formed.{bound-chain, places-few, states-long}

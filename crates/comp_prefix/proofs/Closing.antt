@@ -19,11 +19,11 @@ use Rattle.cert_base.specs.FactsAndCases.{states_of, flow, base_list, two_agents
 use Rattle.cert_base.specs.Closes.{refutes, cases_of, ClosesUnder, refuted, by_cases, no_case, next_case, Closes}
 use Rattle.comp_trees.specs.LeaderTree.{weighed_node, leader_nodes, company_of}
 use Rattle.comp_powers_leaf.proofs.Bits.{double}
-use Rattle.comp_flock.specs.FlockLeaf.{says_enough, enough_for}
-use Rattle.comp_flock.specs.FlockProof.{converted_mix, start_mix, never_mix, offset_pred_of}
-use Rattle.comp_flock.proofs.Opened.{opened_row, opened_constant, opened-is}
-use Rattle.comp_flock.proofs.Closing.{filter-all}
-use Rattle.comp_flock.proofs.FullNodes.{full, IsCounting, converted_facts, converted_closes, start_facts, start_closes, never_facts, never_long, never_closes}
+use Rattle.comp_counting.specs.FlockAtoms.{says_enough, enough_for, offset_pred_of}
+use Rattle.comp_counting.specs.FullState.{converted_mix, start_mix, never_mix}
+use Rattle.comp_counting.proofs.Opened.{opened_row, opened_constant, opened-is}
+use Rattle.comp_counting.proofs.Filters.{filter-all}
+use Rattle.comp_counting.proofs.FullNodes.{full, IsCounting, converted_facts, converted_closes, start_facts, start_closes, never_facts, never_long, never_closes}
 use Rattle.comp_prefix.specs.PrefixLeaf.{prefix_state_name, prefix_moves, prefix_leaf_with}
 use Rattle.comp_prefix.specs.PrefixProof.{with_mix, without_mix, first_mix, prefix_nodes, enough_tree, too_few_tree}
 use Rattle.comp_prefix.proofs.WorthLaws.{high, no-more}

@@ -7,10 +7,11 @@ use Rattle.std.proofs.lemmas.List.Elements.{All-nil, All-get_or}
 use Rattle.pop_net.specs.LeafModel.{IsLeaf}
 use Rattle.pres_ast.specs.declared.limits.TheConstants.{COEFFICIENT_LIMIT}
 use Rattle.comp_trees.proofs.Mixes.{IsPlain}
-use Rattle.comp_flock.specs.declared.limits.TheConstants.{POWER_LIMIT}
-use Rattle.comp_flock.specs.FlockLeaf.{is_counted, says_enough, enough_for, flock_start}
-use Rattle.comp_flock.proofs.Opened.{opened_row, opened-long}
-use Rattle.comp_flock.proofs.FullNodes.{IsCounting}
+use Rattle.comp_counting.specs.declared.limits.TheConstants.{POWER_LIMIT}
+use Rattle.comp_counting.specs.FlockAtoms.{is_counted, says_enough, enough_for}
+use Rattle.comp_counting.specs.FullState.{flock_start}
+use Rattle.comp_counting.proofs.Opened.{opened_row, opened-long}
+use Rattle.comp_counting.proofs.FullNodes.{IsCounting}
 use Rattle.comp_prefix.specs.PrefixLeaf.{prefix_state_name, prefix_moves, prefix_leaf_with, bound_worths, last_place, IsPrefix}
 use Rattle.comp_prefix.proofs.Chain.{IsChain}
 use Rattle.comp_prefix.proofs.Starts.{start-at, starts-full}

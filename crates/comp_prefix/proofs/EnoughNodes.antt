@@ -22,12 +22,12 @@ use Rattle.cert_base.proofs.FlowSums.{weighted_sum-map, total-same, total-none, 
 use Rattle.comp_trees.specs.LeaderTree.{mix_over, company_of}
 use Rattle.comp_trees.proofs.LeaderEnds.{absent-at, is_wrong, may_weigh-eqs, rules_out, none_out, out-state}
 use Rattle.comp_trees.proofs.Mixes.{all_facts, IsLow, mix_closes}
-use Rattle.comp_flock.specs.declared.limits.TheConstants.{POWER_LIMIT}
-use Rattle.comp_flock.specs.FlockLeaf.{says_enough, enough_for, flock_start}
-use Rattle.comp_flock.specs.FlockProof.{for_states, offset_pred_of}
-use Rattle.comp_flock.proofs.Powers.{zero_le}
-use Rattle.comp_flock.proofs.Opened.{opened_row, opened_constant, enough-constant}
-use Rattle.comp_flock.proofs.Starts.{enough-row}
+use Rattle.comp_counting.specs.declared.limits.TheConstants.{POWER_LIMIT}
+use Rattle.comp_counting.specs.FlockAtoms.{says_enough, enough_for, offset_pred_of}
+use Rattle.comp_counting.specs.FullState.{flock_start, for_states}
+use Rattle.comp_counting.proofs.Numbers.{zero_le}
+use Rattle.comp_counting.proofs.Opened.{opened_row, opened_constant, enough-constant}
+use Rattle.comp_counting.proofs.Counted.{enough-row}
 use Rattle.comp_prefix.specs.PrefixLeaf.{worth_in, prefix_moves, prefix_leaf_with}
 use Rattle.comp_prefix.specs.PrefixProof.{greatest_worth, lost_worth, is_low, kept_worth, ruled_worth, own_worth, with_mix, without_mix}
 use Rattle.comp_prefix.proofs.WorthLaws.{not_less, no-more, not-full, low-lesser, own-total, kept-total}

@@ -13,8 +13,9 @@ use Rattle.pop_net.specs.declared.leaf.Move.{Move}
 use Rattle.pop_net.specs.LeafModel.{LeafModel, IsLeaf, IsMoveBelow}
 use Rattle.comp_trees.proofs.StateNames.{number-named, named-apart}
 use Rattle.comp_powers_leaf.proofs.Bits.{power-le}
-use Rattle.comp_flock.specs.declared.limits.TheConstants.{POWER_LIMIT}
-use Rattle.comp_flock.specs.FlockLeaf.{is_counted, says_enough, enough_for, flock_start, flock_output}
+use Rattle.comp_counting.specs.declared.limits.TheConstants.{POWER_LIMIT}
+use Rattle.comp_counting.specs.FlockAtoms.{is_counted, says_enough, enough_for}
+use Rattle.comp_counting.specs.FullState.{flock_start, flock_output}
 use Rattle.comp_prefix.specs.PrefixLeaf.{worth_in, prefix_state_name, prefix_moves, prefix_leaf_with, prefix_leaf_of, bound_worths, last_place, IsPrefix}
 use Rattle.comp_prefix.proofs.Chain.{IsChain, worths-chain}
 use Rattle.comp_prefix.proofs.WorthLaws.{rising, no-more}

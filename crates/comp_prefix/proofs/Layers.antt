@@ -15,10 +15,8 @@ use Rattle.cert_base.specs.ValidLayers.{weight_at, IsLower, ValidLayers}
 use Rattle.cert_base.proofs.WeightBounds.{spread_of}
 use Rattle.comp_trees.proofs.SortedLayers.{AreKinds, sorted_layers-valid}
 use Rattle.comp_trees.proofs.TrapNodes.{places-all}
-use Rattle.comp_flock.specs.FlockLeaf.{flock_state_count}
-use Rattle.comp_flock.specs.FlockProof.{flock_weight, for_states, counting_layers, offset_steps}
-use Rattle.comp_flock.proofs.Layers.{weight-full, weight-power}
-use Rattle.comp_flock.proofs.Steps.{weight_within, none-within}
+use Rattle.comp_counting.specs.FullState.{flock_state_count, flock_weight, for_states, counting_layers, offset_steps}
+use Rattle.comp_counting.proofs.LayerWeights.{weight-full, weight-power, weight_within, none-within}
 use Rattle.comp_prefix.specs.PrefixLeaf.{worth_in, full_move, join_move, prefix_moves, prefix_state_name, prefix_leaf_with}
 use Rattle.comp_prefix.proofs.Chain.{IsChain}
 use Rattle.comp_prefix.proofs.MoveLists.{all_moves}

@@ -8,8 +8,8 @@ use Rattle.pop_net.specs.LeafModel.{silent_move}
 use Rattle.pop_net.specs.Reaction.{takes_states}
 use Rattle.pop_net.proofs.Silent.{takes-own, same-other}
 use Rattle.cert_base.proofs.WeightedSums.{list_any-from}
-use Rattle.comp_flock.specs.FlockLeaf.{conversion_move}
-use Rattle.comp_flock.proofs.MoveLists.{differ_pair, conversion-loud}
+use Rattle.comp_counting.specs.FullState.{conversion_move}
+use Rattle.comp_counting.proofs.Conversions.{differ_pair, conversion-loud}
 use Rattle.comp_powers_leaf.proofs.Bits.{double}
 use Rattle.comp_prefix.specs.PrefixLeaf.{worth_in, full_move, join_move, prefix_moves}
 use Rattle.comp_prefix.proofs.Chain.{IsChain}

@@ -12,8 +12,8 @@ use Rattle.pop_net.specs.Reaction.{Differ}
 use Rattle.comp_trees.proofs.Members.{all_flat, has_flat, range_has}
 use Rattle.comp_trees.proofs.SortedLayers.{AllPairs-append}
 use Rattle.comp_trees.proofs.Single.{pairs_flat, pairs_map, differ-by}
-use Rattle.comp_flock.specs.FlockLeaf.{conversion_move}
-use Rattle.comp_flock.proofs.MoveLists.{all_conversions, differ_pair}
+use Rattle.comp_counting.specs.FullState.{conversion_move}
+use Rattle.comp_counting.proofs.Conversions.{all_conversions, differ_pair}
 use Rattle.list_laws.proofs.Ranges.{all_range}
 use Rattle.list_laws.proofs.Lists.{has_first, has_map}
 use Rattle.comp_prefix.specs.PrefixLeaf.{worth_in, full_move, join_move, pair_moves, moves_from, prefix_moves}

@@ -7,10 +7,11 @@ use Rattle.std.proofs.lemmas.List.Elements.{All-map, All-from_get_or}
 use Rattle.pop_net.proofs.Found.{find_some}
 use Rattle.comp_powers_leaf.specs.PowersLeaf.{power_in}
 use Rattle.comp_powers_leaf.proofs.Bits.{power-le}
-use Rattle.comp_flock.specs.declared.limits.TheConstants.{POWER_LIMIT}
-use Rattle.comp_flock.specs.FlockLeaf.{is_counted, is_size, place_of, flock_start}
-use Rattle.comp_flock.proofs.Starts.{counted}
-use Rattle.comp_flock.proofs.FullNodes.{StartsFull}
+use Rattle.comp_counting.specs.declared.limits.TheConstants.{POWER_LIMIT}
+use Rattle.comp_counting.specs.FlockAtoms.{is_counted, is_size}
+use Rattle.comp_counting.specs.FullState.{place_of, flock_start}
+use Rattle.comp_counting.proofs.Counted.{counted}
+use Rattle.comp_counting.proofs.FullNodes.{StartsFull}
 use Rattle.comp_prefix.specs.PrefixLeaf.{worth_in}
 use Rattle.comp_prefix.proofs.Chain.{IsChain}
 

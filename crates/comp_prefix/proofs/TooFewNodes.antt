@@ -25,13 +25,13 @@ use Rattle.comp_trees.proofs.LeaderEnds.{is_wrong}
 use Rattle.comp_trees.proofs.TrapNodes.{places-all}
 use Rattle.comp_trees.proofs.Mixes.{all_facts, IsLow, mix_closes}
 use Rattle.comp_trees.proofs.TakenMoves.{taken-before, taken-move, taken-past}
-use Rattle.comp_flock.specs.FlockLeaf.{says_enough, enough_for, flock_start, conversion_move}
-use Rattle.comp_flock.specs.FlockProof.{offset_pred_of}
-use Rattle.comp_flock.proofs.Powers.{zero_le}
-use Rattle.comp_flock.proofs.MoveLists.{all_conversions}
-use Rattle.comp_flock.proofs.OwnFacts.{places-none}
-use Rattle.comp_flock.proofs.Opened.{opened_row, opened_constant, too-few-constant}
-use Rattle.comp_flock.proofs.FullNodes.{full, in-yes, in-no, or_yes, row-at, start-of}
+use Rattle.comp_counting.specs.FlockAtoms.{says_enough, enough_for, offset_pred_of}
+use Rattle.comp_counting.specs.FullState.{flock_start, conversion_move}
+use Rattle.comp_counting.proofs.Numbers.{zero_le}
+use Rattle.comp_counting.proofs.Conversions.{all_conversions}
+use Rattle.comp_counting.proofs.OwnFacts.{places-none}
+use Rattle.comp_counting.proofs.Opened.{opened_row, opened_constant, too-few-constant}
+use Rattle.comp_counting.proofs.FullNodes.{full, in-yes, in-no, or_yes, row-at, start-of}
 use Rattle.comp_prefix.specs.PrefixLeaf.{worth_in, full_move, join_move, moves_from, prefix_moves, prefix_state_name, prefix_leaf_with}
 use Rattle.comp_prefix.specs.PrefixProof.{lesser_worth, first_mix}
 use Rattle.comp_prefix.proofs.Starts.{IsStart, start-at}

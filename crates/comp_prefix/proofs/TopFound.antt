@@ -5,9 +5,9 @@ use Rattle.std.specs.List.{range_with_len, list_all}
 use Rattle.std.proofs.lemmas.Bool.{leb-true, le-leb, lt-ltb, ltb-true, ltb-false, and_parts}
 use Rattle.pres_ast.specs.PredModel.{IsAtomSum}
 use Rattle.comp_powers_leaf.proofs.Bits.{power-le}
-use Rattle.comp_flock.specs.declared.limits.TheConstants.{POWER_LIMIT}
-use Rattle.comp_flock.specs.FlockLeaf.{is_counted, says_enough, enough_for}
-use Rattle.comp_flock.proofs.PowerFound.{find-first, find-any, find-in}
+use Rattle.comp_counting.specs.declared.limits.TheConstants.{POWER_LIMIT}
+use Rattle.comp_counting.specs.FlockAtoms.{is_counted, says_enough, enough_for}
+use Rattle.comp_counting.proofs.FirstFound.{find-first, find-any, find-in}
 use Rattle.comp_prefix.specs.PrefixLeaf.{IsPrefix, prefix_top}
 use Rattle.comp_prefix.proofs.Formed.{place-few}
 

@@ -10,9 +10,9 @@ use Rattle.cert_base.specs.FactsAndCases.{base_list}
 use Rattle.cert_base.specs.Closes.{Closes}
 use Rattle.cert_base.specs.ValidProof.{ValidLeafProof}
 use Rattle.cert_base.specs.ProofLimits.{IsLeafProofWithin}
-use Rattle.comp_flock.specs.FlockLeaf.{says_enough, enough_for, IsOffset}
-use Rattle.comp_flock.specs.declared.limits.TheConstants.{POWER_LIMIT}
-use Rattle.comp_flock.specs.FlockProof.{counting_layers, offset_pred_of}
+use Rattle.comp_counting.specs.FlockAtoms.{says_enough, enough_for, IsOffset, offset_pred_of}
+use Rattle.comp_counting.specs.declared.limits.TheConstants.{POWER_LIMIT}
+use Rattle.comp_counting.specs.FullState.{counting_layers}
 use Rattle.comp_prefix.specs.PrefixLeaf.{bound_worths, last_place, prefix_leaf_of, IsPrefix}
 use Rattle.comp_prefix.specs.PrefixProof.{prefix_tree, bound_tree, prefix_part}
 use Rattle.comp_prefix.proofs.MoveLists.{moves-few, moves-single}

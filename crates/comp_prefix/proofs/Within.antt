@@ -15,9 +15,9 @@ use Rattle.cert_base.specs.FactsAndCases.{states_of, can_meet_in}
 use Rattle.cert_base.specs.ProofLimits.{IsSmall, IsNodeWithin, AreNodesWithin, IsLayerWithin}
 use Rattle.comp_trees.specs.LeaderTree.{weighed_node, company_of}
 use Rattle.comp_trees.proofs.Limits.{all-zeros, one, nodes-long, nodes-within}
-use Rattle.comp_flock.specs.declared.limits.TheConstants.{POWER_LIMIT}
-use Rattle.comp_flock.specs.FlockProof.{flock_weight, counting_layers, converted_mix, start_mix, never_mix}
-use Rattle.comp_flock.proofs.Within.{weight-small, mix-within, converted-within, start-within, never-within, full-within}
+use Rattle.comp_counting.specs.declared.limits.TheConstants.{POWER_LIMIT}
+use Rattle.comp_counting.specs.FullState.{flock_weight, counting_layers, converted_mix, start_mix, never_mix}
+use Rattle.comp_counting.proofs.Within.{weight-small, mix-within, converted-within, start-within, never-within, full-within}
 use Rattle.comp_prefix.specs.PrefixLeaf.{worth_in, prefix_leaf_with}
 use Rattle.comp_prefix.specs.PrefixProof.{lost_worth, lesser_worth, is_low, kept_worth, ruled_worth, own_worth, with_mix, without_mix, first_mix, prefix_nodes, enough_tree, too_few_tree, prefix_tree}
 use Rattle.comp_prefix.proofs.Chain.{IsChain}

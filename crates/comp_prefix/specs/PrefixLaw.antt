@@ -7,8 +7,8 @@ use Rattle.pop_net.specs.Reaction.{Differ}
 use Rattle.pres_ast.specs.PredModel.{IsAtomSum}
 use Rattle.cert_base.specs.ValidProof.{ValidLeafProof}
 use Rattle.cert_base.specs.ProofLimits.{IsLeafProofWithin}
-use Rattle.comp_flock.specs.declared.limits.TheConstants.{POWER_LIMIT}
-use Rattle.comp_flock.specs.FlockLeaf.{is_counted, says_enough, enough_for}
+use Rattle.comp_counting.specs.declared.limits.TheConstants.{POWER_LIMIT}
+use Rattle.comp_counting.specs.FlockAtoms.{is_counted, says_enough, enough_for}
 use Rattle.comp_prefix.specs.PrefixLeaf.{IsPrefix, prefix_top, prefix_leaf_of}
 use Rattle.comp_prefix.specs.PrefixProof.{prefix_part}
 

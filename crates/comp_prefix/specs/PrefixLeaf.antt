@@ -1,17 +1,17 @@
 -- PrefixLeaf: the built leaf, without helpers, of an atom that says that a sum is at least c, or denies it, where each
 -- coefficient is 0, a power of two or at least c (Blondin, Esparza, Jaax 2018). The greatest one of c is that of 2^top.
 use Rattle.std.specs.Prelude.{◌≡◌, ◌≤◌, ◌<◌, ℕ, zero, suc, ◌+◌, ◌-◌, ◌^◌, ◌%◌, Bool, true, ◌&&◌, ◌==◌, nat_le, nat_lt}
-use Rattle.std.specs.Prelude.{if◌then◌else◌, List, [], ◌∷◌, ◌++◌, length, map, flat_map, slice_index_or, ℤ}
-use Rattle.std.specs.Prelude.{Option, None, find, All}
+use Rattle.std.specs.Prelude.{if◌then◌else◌, List, [], ◌∷◌, ◌++◌, length, map, flat_map, slice_index_or, ℤ, Option}
+use Rattle.std.specs.Prelude.{None, find, All}
 use Rattle.std.specs.List.{range_with_len, list_all}
 use Rattle.std.specs.Fmt.{decimal}
 use Rattle.pop_net.specs.declared.leaf.Move.{Move}
 use Rattle.pop_net.specs.LeafModel.{LeafModel}
 use Rattle.pres_ast.specs.PredModel.{IsAtomSum}
 use Rattle.comp_powers_leaf.specs.PowersLeaf.{has_bit}
-use Rattle.comp_flock.specs.declared.limits.TheConstants.{POWER_LIMIT, PLACE_LIMIT}
-use Rattle.comp_flock.specs.FlockLeaf.{is_counted, says_enough, enough_for, conversion_move, flock_start}
-use Rattle.comp_flock.specs.FlockLeaf.{flock_state_count, flock_output}
+use Rattle.comp_counting.specs.declared.limits.TheConstants.{POWER_LIMIT, PLACE_LIMIT}
+use Rattle.comp_counting.specs.FlockAtoms.{is_counted, says_enough, enough_for}
+use Rattle.comp_counting.specs.FullState.{conversion_move, flock_start, flock_state_count, flock_output}
 
 -- ---- the atoms
 

@@ -1,8 +1,7 @@
 -- PrefixProof: the trees and the whole proof for a built leaf of prefixes with k + 2 states. The full one is
 -- state k + 1, and the other prefixes are the states from top + 1 to k.
-use Rattle.std.specs.Prelude.{ℕ, ◌+◌, ◌-◌, ◌^◌, ◌==◌, nat_lt, if◌then◌else◌, Bool, true, false, not, List, []}
-use Rattle.std.specs.Prelude.{◌∷◌, ◌++◌}
-use Rattle.std.specs.Prelude.{map, length, ℤ, pos, neg_ℤ}
+use Rattle.std.specs.Prelude.{ℕ, ◌+◌, ◌-◌, ◌^◌, ◌==◌, nat_lt, if◌then◌else◌, Bool, true, false, not, List, [], ◌∷◌}
+use Rattle.std.specs.Prelude.{◌++◌, map, length, ℤ, pos, neg_ℤ}
 use Rattle.std.specs.List.{range_with_len}
 use Rattle.pop_net.specs.LeafModel.{LeafModel}
 use Rattle.cert_base.specs.declared.node.Node.{Node}
@@ -10,9 +9,9 @@ use Rattle.cert_base.specs.declared.node.Node.TheVariants.{Present, Twin, Open}
 use Rattle.cert_base.specs.declared.proof.LeafProof.{LeafProof}
 use Rattle.cert_base.specs.Rows.{zeros}
 use Rattle.comp_trees.specs.LeaderTree.{weighed_node, mix_over, company_of, leader_nodes}
-use Rattle.comp_flock.specs.declared.limits.TheConstants.{POWER_LIMIT}
-use Rattle.comp_flock.specs.FlockLeaf.{says_enough, enough_for, flock_state_count}
-use Rattle.comp_flock.specs.FlockProof.{counting_layers, for_states, converted_mix, full_tree, offset_pred_of}
+use Rattle.comp_counting.specs.declared.limits.TheConstants.{POWER_LIMIT}
+use Rattle.comp_counting.specs.FlockAtoms.{says_enough, enough_for, offset_pred_of}
+use Rattle.comp_counting.specs.FullState.{flock_state_count, counting_layers, for_states, converted_mix, full_tree}
 use Rattle.comp_prefix.specs.PrefixLeaf.{worth_in, bound_worths, last_place, prefix_leaf_of}
 
 -- ---- the nodes

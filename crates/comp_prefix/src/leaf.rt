@@ -2,13 +2,13 @@
 
 ghost use Rattle.std.specs.Prelude.{◌≡◌, IfOk};
 ghost use Rattle.comp_trees.specs.DefinedLeaf.{IsDefined};
-ghost use Rattle.comp_flock.specs.FlockLeaf.{enough_for};
+ghost use Rattle.comp_counting.specs.FlockAtoms.{enough_for};
 ghost use Rattle.comp_prefix.specs.PrefixLeaf.{bound_worths, last_place, prefix_leaf_of, IsPrefix};
 
 use crate::listing::moves;
 use crate::naming::names;
 use crate::worths::Worths;
-use comp_flock::{inputs, outputs, says_enough};
+use comp_counting::{inputs, outputs, says_enough};
 use pop_io::{List, NoMemory};
 use pop_net::Leaf;
 use std::alloc::Global;

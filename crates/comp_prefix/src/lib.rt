@@ -1,5 +1,5 @@
 //! Leaves without helpers that compute `a*x + .. >= c` or deny it, for coefficients that are 0, powers of two or at least
-//! c; and their proofs. It stands on `comp_flock`, which has the same atoms with helpers.
+//! c; and their proofs. It stands on `comp_counting`, which has what all leaves of these atoms share.
 //! The layer above uses: `prefix_top` recognizes the atoms; `prefix_flock` gives exactly the built leaf, and a proof that
 //! is valid for it and within the limits.
 //!

@@ -2,11 +2,10 @@
 
 ghost use Rattle.std.specs.Prelude.{◌≡◌, ◌≤◌, ◌+◌, ◌++◌, map, flat_map, IfOk, OnOk};
 ghost use Rattle.std.specs.List.{range_with_len};
-ghost use Rattle.comp_flock.specs.declared.limits.TheConstants.{PLACE_LIMIT};
-ghost use Rattle.comp_flock.specs.FlockLeaf.{conversion_move};
+ghost use Rattle.comp_counting.specs.declared.limits.TheConstants.{PLACE_LIMIT};
+ghost use Rattle.comp_counting.specs.FullState.{conversion_move};
 ghost use Rattle.comp_prefix.specs.PrefixLeaf.{full_move as full_of, join_move as join_of, pair_moves};
-ghost use Rattle.comp_prefix.specs.PrefixLeaf.{moves_from as from_of};
-ghost use Rattle.comp_prefix.specs.PrefixLeaf.{prefix_moves};
+ghost use Rattle.comp_prefix.specs.PrefixLeaf.{moves_from as from_of, prefix_moves};
 
 use crate::worths::{Worths, worth_in};
 use pop_io::NoMemory;

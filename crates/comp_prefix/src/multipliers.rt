@@ -4,14 +4,14 @@ ghost use Rattle.std.specs.Prelude.{◌≡◌, ◌≤◌, ◌<◌, ◌+◌, ◌-
 ghost use Rattle.std.specs.List.{range_with_len};
 ghost use Rattle.cert_base.specs.Rows.{zeros};
 ghost use Rattle.comp_trees.specs.LeaderTree.{company_of};
-ghost use Rattle.comp_flock.specs.declared.limits.TheConstants.{POWER_LIMIT};
-ghost use Rattle.comp_flock.specs.FlockProof.{for_states};
+ghost use Rattle.comp_counting.specs.declared.limits.TheConstants.{POWER_LIMIT};
+ghost use Rattle.comp_counting.specs.FullState.{for_states};
 ghost use Rattle.comp_prefix.specs.PrefixProof.{greatest_worth, lost_worth as lost_of, lesser_worth as lesser_of};
 ghost use Rattle.comp_prefix.specs.PrefixProof.{is_low as low_of, kept_worth as kept_of, ruled_worth as ruled_of};
 ghost use Rattle.comp_prefix.specs.PrefixProof.{own_worth as own_of, with_mix, without_mix, first_mix};
 
 use crate::worths::{Worths, worth_in};
-use comp_flock::POWER_LIMIT as GREATEST_POWER;
+use comp_counting::POWER_LIMIT as GREATEST_POWER;
 use comp_powers_leaf::two_to;
 use comp_trees::{company, mix, picked};
 use pop_io::NoMemory;

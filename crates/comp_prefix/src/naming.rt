@@ -2,7 +2,7 @@
 
 ghost use Rattle.std.specs.Prelude.{◌≡◌, ◌≤◌, ◌+◌, map, IfOk};
 ghost use Rattle.std.specs.List.{range_with_len};
-ghost use Rattle.comp_flock.specs.FlockLeaf.{flock_state_count};
+ghost use Rattle.comp_counting.specs.FullState.{flock_state_count};
 ghost use Rattle.comp_prefix.specs.PrefixLeaf.{prefix_state_name};
 
 use crate::worths::{Worths, worth_in};

@@ -2,11 +2,11 @@
 
 ghost use Rattle.std.specs.Prelude.{◌≡◌, ◌≤◌, ◌+◌, ◌^◌, ◌&&◌, find, nat_le, nat_lt, IfSome};
 ghost use Rattle.std.specs.List.{range_with_len, list_all};
-ghost use Rattle.comp_flock.specs.declared.limits.TheConstants.{POWER_LIMIT as GREATEST_POWER};
-ghost use Rattle.comp_flock.specs.FlockLeaf.{is_counted};
+ghost use Rattle.comp_counting.specs.declared.limits.TheConstants.{POWER_LIMIT as GREATEST_POWER};
+ghost use Rattle.comp_counting.specs.FlockAtoms.{is_counted};
 ghost use Rattle.comp_prefix.specs.PrefixLeaf.{top_of_counted, prefix_top as top_of};
 
-use comp_flock::{POWER_LIMIT, are_counted, enough_for, says_enough};
+use comp_counting::{POWER_LIMIT, are_counted, enough_for, says_enough};
 use comp_powers_leaf::two_to;
 
 fn is_above(enough: u64, k: u32) -> bool

@@ -4,15 +4,15 @@ ghost use Rattle.std.specs.Prelude.{◌≡◌, ◌≤◌, ◌<◌, ◌+◌, ◌-
 ghost use Rattle.std.specs.List.{range_with_len};
 ghost use Rattle.cert_base.specs.declared.node.Node.TheVariants.{Twin as twin_node, Present as present_node};
 ghost use Rattle.comp_trees.specs.LeaderTree.{weighed_node};
-ghost use Rattle.comp_flock.specs.declared.limits.TheConstants.{PLACE_LIMIT};
+ghost use Rattle.comp_counting.specs.declared.limits.TheConstants.{PLACE_LIMIT};
 ghost use Rattle.comp_prefix.specs.PrefixProof.{with_mix, without_mix, prefix_nodes as nodes_of};
-ghost use Rattle.comp_prefix.specs.PrefixProof.{enough_tree as tree_of_enough};
-ghost use Rattle.comp_prefix.specs.PrefixProof.{too_few_tree as tree_of_few, prefix_tree};
+ghost use Rattle.comp_prefix.specs.PrefixProof.{enough_tree as tree_of_enough, too_few_tree as tree_of_few};
+ghost use Rattle.comp_prefix.specs.PrefixProof.{prefix_tree};
 
 use crate::multipliers::{first, with_prefix, without_prefix};
 use crate::worths::Worths;
 use cert_base::Node;
-use comp_flock::{converted_node, full_tree, opened_number};
+use comp_counting::{converted_node, full_tree, opened_number};
 use comp_trees::weighed;
 use pop_io::{List, NoMemory};
 use pop_net::Leaf;

@@ -2,8 +2,8 @@
 
 ghost use Rattle.std.specs.Prelude.{◌≡◌, IfOk};
 ghost use Rattle.comp_trees.specs.BuiltLeaf.{IsBuilt};
-ghost use Rattle.comp_flock.specs.FlockLeaf.{enough_for as enough};
-ghost use Rattle.comp_flock.specs.FlockProof.{offset_pred_of, offset_steps};
+ghost use Rattle.comp_counting.specs.FlockAtoms.{enough_for as enough, offset_pred_of};
+ghost use Rattle.comp_counting.specs.FullState.{offset_steps};
 ghost use Rattle.comp_prefix.specs.PrefixLeaf.{IsPrefix, bound_worths, last_place, prefix_leaf_of};
 ghost use Rattle.comp_prefix.specs.PrefixProof.{prefix_part};
 
@@ -11,7 +11,7 @@ use crate::leaf::prefix_leaf;
 use crate::trees::tree;
 use crate::worths::{Worths, all_worths};
 use cert_base::LeafProof;
-use comp_flock::{POWER_LIMIT, counting_layers, enough_for, offset_pred, says_enough};
+use comp_counting::{POWER_LIMIT, counting_layers, enough_for, offset_pred, says_enough};
 use pop_io::NoMemory;
 use pop_net::Leaf;
 use std::alloc::Global;

@@ -1,14 +1,14 @@
 //! What the states are worth.
 
-ghost use Rattle.std.specs.Prelude.{◌≡◌, ◌≤◌, ◌+◌, ◌-◌, ◌^◌, ◌%◌, ◌++◌, ◌∷◌, [], length, map, if◌then◌else◌};
-ghost use Rattle.std.specs.Prelude.{IfOk, OnOk};
+ghost use Rattle.std.specs.Prelude.{◌≡◌, ◌≤◌, ◌+◌, ◌-◌, ◌^◌, ◌%◌, ◌++◌, ◌∷◌, [], length, map, if◌then◌else◌, IfOk};
+ghost use Rattle.std.specs.Prelude.{OnOk};
 ghost use Rattle.std.specs.List.{range_with_len};
 ghost use Rattle.comp_powers_leaf.specs.PowersLeaf.{has_bit};
-ghost use Rattle.comp_flock.specs.declared.limits.TheConstants.{POWER_LIMIT};
-ghost use Rattle.comp_prefix.specs.PrefixLeaf.{prefixes, worths as worths_of, worth_in as worth_of};
-ghost use Rattle.comp_prefix.specs.PrefixLeaf.{bound_worths, AreWorths};
+ghost use Rattle.comp_counting.specs.declared.limits.TheConstants.{POWER_LIMIT};
+ghost use Rattle.comp_prefix.specs.PrefixLeaf.{prefixes, worths as worths_of, worth_in as worth_of, bound_worths};
+ghost use Rattle.comp_prefix.specs.PrefixLeaf.{AreWorths};
 
-use comp_flock::enough_for;
+use comp_counting::enough_for;
 use comp_powers_leaf::{is_set, two_to};
 use pop_io::NoMemory;
 use std::alloc::Global;

@@ -5,7 +5,9 @@ use Rattle.std.proofs.lemmas.Int.{to_z-of_z}
 use Rattle.std.proofs.lemmas.Result.{IfOk-weaker}
 use Rattle.pop_net.specs.LeafModel.{LeafModel, IsLeaf}
 use Rattle.pop_net.specs.Reaction.{Differ}
-use Rattle.comp_flock.specs.FlockLeaf.{says_enough, enough_for, flock_start, flock_output, bit_states, all_offset_helpers}
+use Rattle.comp_counting.specs.FlockAtoms.{says_enough, enough_for}
+use Rattle.comp_counting.specs.FullState.{flock_start, flock_output}
+use Rattle.comp_flock.specs.FlockLeaf.{bit_states, all_offset_helpers}
 use Rattle.comp_flock.proofs.Formed.{leaf-as, offset-formed}
 use Rattle.comp_flock.proofs.SingleMoves.{moves-single}
 use Rattle.comp_flock.proofs.leaf.flock_leaf.Goals as goal

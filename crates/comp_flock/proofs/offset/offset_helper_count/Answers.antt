@@ -1,6 +1,7 @@
 use Rattle.std.proofs.Common.{◌∙◌, ◌-◌, ◌^◌, ap, length, rules, w64, SFits}
 use Rattle.std.proofs.lemmas.Int.{to_z-of_z}
-use Rattle.comp_flock.specs.FlockLeaf.{enough_for, bit_states}
+use Rattle.comp_counting.specs.FlockAtoms.{enough_for}
+use Rattle.comp_flock.specs.FlockLeaf.{bit_states}
 use Rattle.comp_flock.proofs.offset.offset_helper_count.Goals as goal
 
 pub returns-clause-count : goal.returns-clause-count

@@ -2,8 +2,9 @@ use Rattle.std.proofs.Common.{◌∙◌, sym, subst, rules, w64, SFits}
 use Rattle.std.proofs.lemmas.Int.{to_z-of_z}
 use Rattle.std.proofs.lemmas.Result.{IfOk-weaker}
 use Rattle.comp_trees.specs.BuiltLeaf.{IsBuilt}
-use Rattle.comp_flock.specs.FlockLeaf.{IsOffset, HasSpareRoom, offset_leaf_of}
-use Rattle.comp_flock.specs.FlockProof.{offset_pred_of, offset_steps}
+use Rattle.comp_counting.specs.FlockAtoms.{IsOffset, offset_pred_of}
+use Rattle.comp_flock.specs.FlockLeaf.{HasSpareRoom, offset_leaf_of}
+use Rattle.comp_counting.specs.FullState.{offset_steps}
 use Rattle.comp_flock.proofs.Offsets.{flock-offset}
 use Rattle.comp_flock.proofs.Valid.{no-spare, flock-built}
 use Rattle.comp_flock.proofs.whole.flock.Goals as goal

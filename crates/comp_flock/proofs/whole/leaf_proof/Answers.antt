@@ -1,8 +1,8 @@
 use Rattle.std.proofs.Common.{◌∙◌, ap, arith, rules, w64, SFits}
 use Rattle.std.specs.Prelude.{not}
 use Rattle.std.proofs.lemmas.Int.{to_z-of_z}
-use Rattle.comp_flock.specs.FlockLeaf.{says_enough, enough_for}
-use Rattle.comp_flock.specs.FlockProof.{full_size, offset_pred_of, flock_tree}
+use Rattle.comp_counting.specs.FlockAtoms.{says_enough, enough_for, offset_pred_of}
+use Rattle.comp_flock.specs.FlockProof.{full_size, flock_tree}
 use Rattle.comp_flock.proofs.Powers.{power_small}
 use Rattle.comp_flock.proofs.Valid.{part-as}
 use Rattle.comp_flock.proofs.whole.leaf_proof.Goals as goal

@@ -8,8 +8,9 @@ use Rattle.comp_trees.specs.BuiltLeaf.{IsBuilt}
 use Rattle.comp_threshold.specs.declared.limits.TheConstants.{WIDTH_LIMIT}
 use Rattle.comp_threshold.specs.ThresholdLeaf.{threshold_width, place_of_value}
 use Rattle.comp_threshold.specs.Built.{IsThreshold}
-use Rattle.comp_flock.specs.FlockLeaf.{enough_for, flock_start, offset_leaf_of, offset_helper_count, IsOffset}
-use Rattle.comp_flock.specs.FlockProof.{flock_pred_of, offset_pred_of, offset_steps}
+use Rattle.comp_counting.specs.FlockAtoms.{enough_for, IsOffset, flock_pred_of, offset_pred_of}
+use Rattle.comp_counting.specs.FullState.{flock_start, offset_steps}
+use Rattle.comp_flock.specs.FlockLeaf.{offset_leaf_of, offset_helper_count}
 use Rattle.comp_prefix.specs.PrefixLeaf.{IsPrefix, prefix_leaf_of, last_place}
 use Rattle.comp_powers_leaf.specs.PowersLeaf.{place, start_of, coefficient_of, powers_leaf_of, IsPowers}
 use Rattle.comp_powers.specs.PowersProof.{powers_pred_of, powers_steps}

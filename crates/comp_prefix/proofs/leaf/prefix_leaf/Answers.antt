@@ -5,7 +5,8 @@ use Rattle.std.proofs.lemmas.Int.{to_z-of_z}
 use Rattle.std.proofs.lemmas.Result.{IfOk-weaker}
 use Rattle.pop_net.specs.LeafModel.{LeafModel, IsLeaf}
 use Rattle.pop_net.specs.Reaction.{Differ}
-use Rattle.comp_flock.specs.FlockLeaf.{says_enough, enough_for, flock_start, flock_output}
+use Rattle.comp_counting.specs.FlockAtoms.{says_enough, enough_for}
+use Rattle.comp_counting.specs.FullState.{flock_start, flock_output}
 use Rattle.comp_prefix.specs.PrefixLeaf.{prefix_moves, prefix_leaf_with, bound_worths, last_place}
 use Rattle.comp_prefix.proofs.Formed.{leaf-as, prefix-formed}
 use Rattle.comp_prefix.proofs.MoveLists.{moves-single}

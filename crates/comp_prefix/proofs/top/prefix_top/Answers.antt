@@ -1,6 +1,6 @@
 use Rattle.std.proofs.Common.{◌∙◌, ap, rules, w64, SFits}
 use Rattle.std.proofs.lemmas.Int.{to_z-of_z}
-use Rattle.comp_flock.specs.FlockLeaf.{says_enough, enough_for}
+use Rattle.comp_counting.specs.FlockAtoms.{says_enough, enough_for}
 use Rattle.comp_prefix.specs.PrefixLeaf.{top_of_counted}
 use Rattle.comp_prefix.proofs.top.prefix_top.Goals as goal
 

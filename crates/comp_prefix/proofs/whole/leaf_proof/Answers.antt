@@ -1,10 +1,10 @@
-use Rattle.std.proofs.Common.{◌∙◌, ap, sym, subst, length, arith, rules, w64, SFits}
+use Rattle.std.proofs.Common.{◌∙◌, ap, sym, subst, length, rules, w64, SFits}
 use Rattle.std.specs.Prelude.{not}
 use Rattle.std.proofs.lemmas.Int.{to_z-of_z}
 use Rattle.pop_net.specs.LeafModel.{LeafModel}
-use Rattle.comp_flock.specs.declared.limits.TheConstants.{POWER_LIMIT}
-use Rattle.comp_flock.specs.FlockLeaf.{says_enough, IsOffset}
-use Rattle.comp_flock.specs.FlockProof.{offset_pred_of, counting_layers}
+use Rattle.comp_counting.specs.declared.limits.TheConstants.{POWER_LIMIT}
+use Rattle.comp_counting.specs.FlockAtoms.{says_enough, IsOffset, offset_pred_of}
+use Rattle.comp_counting.specs.FullState.{counting_layers}
 use Rattle.comp_prefix.specs.PrefixLeaf.{prefix_leaf_of}
 use Rattle.comp_prefix.proofs.Building.{states-are, tree-as}
 use Rattle.comp_prefix.proofs.Valid.{prefix-offset, part-as}

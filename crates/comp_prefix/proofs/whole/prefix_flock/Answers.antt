@@ -1,6 +1,6 @@
 use Rattle.std.proofs.Common.{◌≡◌, ◌∙◌, ◌-◌, ap, sym, subst, length, arith, rules, w64, SFits}
 use Rattle.std.proofs.lemmas.Int.{to_z-of_z}
-use Rattle.comp_flock.specs.FlockLeaf.{enough_for}
+use Rattle.comp_counting.specs.FlockAtoms.{enough_for}
 use Rattle.comp_prefix.specs.PrefixLeaf.{bound_worths, worths, prefix_leaf_of, AreWorths}
 use Rattle.comp_prefix.specs.PrefixProof.{prefix_part}
 use Rattle.comp_prefix.proofs.Formed.{top-few}

@@ -1,4 +1,4 @@
-use Rattle.std.proofs.Common.{◌∙◌, ◌≤◌, ℕ, Bool, ap, arith}
+use Rattle.std.proofs.Common.{◌∙◌, ℕ, Bool, ap, arith}
 use Rattle.std.specs.Prelude.{if◌then◌else◌}
 use Rattle.comp_prefix.proofs.Building.{prefixes-few, prefixes-counted}
 use Rattle.comp_prefix.proofs.worths.count_prefixes.Goals as goal

@@ -1,6 +1,6 @@
 use Rattle.std.proofs.Common.{◌∙◌, ◌+◌, ap, length, arith, rules, w64, SFits}
 use Rattle.std.proofs.lemmas.Int.{to_z-of_z}
-use Rattle.comp_flock.specs.FlockLeaf.{enough_for}
+use Rattle.comp_counting.specs.FlockAtoms.{enough_for}
 use Rattle.comp_prefix.specs.PrefixLeaf.{prefixes}
 use Rattle.comp_prefix.proofs.Building.{worths-counted}
 use Rattle.comp_prefix.proofs.worths.prefix_states.Goals as goal

@@ -1,0 +1,12 @@
+pub mod Numbers
+pub mod Filters
+pub mod FirstFound
+pub mod Opened
+pub mod Counted
+pub mod WrongOutputs
+pub mod Conversions
+pub mod OwnFacts
+pub mod FullNodes
+pub mod LayerWeights
+pub mod Small
+pub mod Within

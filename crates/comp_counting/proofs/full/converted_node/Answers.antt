@@ -1,0 +1,6 @@
+use Rattle.std.proofs.Common.{length, ap, arith}
+use Rattle.comp_counting.proofs.Within.{converted-short}
+use Rattle.comp_counting.proofs.full.converted_node.Goals as goal
+
+pub node-requires : goal.node-requires
+node-requires c = omega (arith, ap length c.in_ok-multipliers.ensures, converted-short c.args.power c.requires)

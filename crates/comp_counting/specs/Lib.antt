@@ -1,0 +1,2 @@
+pub mod FlockAtoms
+pub mod FullState
