@@ -1,9 +1,9 @@
 -- What a draw gives, once the words that were read and what they react to are known.
 use Rattle.std.proofs.Common.{◌≡◌, ◌≢◌, ℕ, ◌<◌, List, [], ◌∷◌, length, get_or, refl, inl, inr, sym, ap, subst, ◌∙◌}
 use Rattle.pop_net.specs.declared.net.Word.{Word}
-use Rattle.pop_net.specs.NetModel.{NetModel, Tuple}
+use Rattle.pop_leaf.specs.NetModel.{NetModel, Tuple}
 use Rattle.pop_net.specs.Lanes.{tuple_of}
-use Rattle.pop_net.specs.Reaction.{reaction}
+use Rattle.pop_leaf.specs.Reaction.{reaction}
 use Rattle.pop_net.proofs.Packing.{same_word}
 use Rattle.agent_field.specs.declared.field.Field.{Field}
 use Rattle.agent_field.specs.declared.view.Setup.{Setup}

@@ -7,9 +7,9 @@ use mathlib.Core.Option.{Option, none, some, some-ne-none}
 use lib.ListN.{get_elem?}
 use Rattle.atomic_table.proofs.Lists.{set_here}
 use Rattle.pop_net.specs.declared.net.Word.{Word}
-use Rattle.pop_net.specs.NetModel.{NetModel, Tuple, CrowdModel}
+use Rattle.pop_leaf.specs.NetModel.{NetModel, Tuple, CrowdModel}
 use Rattle.pop_net.specs.Lanes.{tuple_of, crowd_of, IsValid}
-use Rattle.pop_net.specs.Reaction.{reaction, after_meeting}
+use Rattle.pop_leaf.specs.Reaction.{reaction, after_meeting}
 use Rattle.pop_crowd.specs.declared.crowd.Meeting.{Meeting}
 use Rattle.pop_crowd.specs.Replay.{replay, reacts}
 use Rattle.agent_field.specs.declared.view.Logged.{Logged}

@@ -4,13 +4,13 @@ use mathlib.Core.List.{append-nil}
 use mathlib.Core.Option.{Option, some, some-injective, some-ne-none}
 use lib.ListN.{get_elem?}
 use Rattle.std.proofs.lemmas.List.{length-map, set-get_or}
-use Rattle.pop_net.specs.NetModel.{NetModel}
+use Rattle.pop_leaf.specs.NetModel.{NetModel}
 use Rattle.pop_net.specs.Lanes.{tuple_of, crowd_of, AreValid}
-use Rattle.pop_net.specs.Step.{Step}
+use Rattle.pop_leaf.specs.Step.{Step}
 use Rattle.pop_net.specs.declared.net.Word.{Word}
-use Rattle.pop_net.specs.Reaction.{after_meeting}
+use Rattle.pop_leaf.specs.Reaction.{after_meeting}
 use Rattle.pop_net.proofs.Packing.{is_tuple}
-use Rattle.pop_net.proofs.Reactions.{reaction_step}
+use Rattle.pop_leaf.proofs.Reactions.{reaction_step}
 use Rattle.std.specs.Prelude.{Some}
 use Rattle.std.proofs.lemmas.Option.{slice_get-get_or}
 use Rattle.pop_crowd.specs.declared.crowd.Meeting.{Meeting}

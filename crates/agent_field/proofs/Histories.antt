@@ -5,9 +5,9 @@ use Rattle.std.proofs.lemmas.Bool.{cases_eq}
 use Rattle.std.proofs.lemmas.List.Elements.{All-head, All-tail, All-push}
 use mathlib.Core.List.{append-nil}
 use Rattle.pop_net.specs.declared.net.Word.{Word}
-use Rattle.pop_net.specs.NetModel.{NetModel, CrowdModel}
+use Rattle.pop_leaf.specs.NetModel.{NetModel, CrowdModel}
 use Rattle.pop_net.specs.Lanes.{crowd_of}
-use Rattle.pop_net.specs.Reaction.{reaction, after_meeting}
+use Rattle.pop_leaf.specs.Reaction.{reaction, after_meeting}
 use Rattle.pop_crowd.specs.declared.crowd.Meeting.{Meeting}
 use Rattle.pop_crowd.specs.Replay.{replay, changes, IsMeeting, AreMarked}
 use Rattle.agent_field.specs.declared.view.Logged.{Logged}

@@ -3,7 +3,7 @@ use Rattle.std.specs.Prelude.{◌≡◌, ℕ, ◌+◌, ◌≤◌, List, [], ◌�
 use Rattle.std.specs.Prelude.{Some, None, Result, OnOk, OnErr, IfOk, IfErr}
 use Rattle.pop_io.specs.declared.fault.NoMemory.{NoMemory}
 use Rattle.pop_net.specs.declared.net.Word.{Word}
-use Rattle.pop_net.specs.NetModel.{NetModel}
+use Rattle.pop_leaf.specs.NetModel.{NetModel}
 use Rattle.pop_net.specs.Lanes.{AreValid}
 use Rattle.pop_io.specs.declared.gate.TheConstants.{SHARD_LIMIT}
 use Rattle.pop_crowd.specs.declared.limits.TheConstants.{AGENT_LEAST, AGENT_LIMIT}

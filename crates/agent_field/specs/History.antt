@@ -2,7 +2,7 @@
 use Rattle.std.specs.Prelude.{ℕ, ◌+◌, ◌<◌, Bool, true, false, ◌==◌, List, [], ◌∷◌, length, All, slice_set, Option, Some}
 use Rattle.std.specs.Prelude.{None}
 use Rattle.pop_net.specs.declared.net.Word.{Word}
-use Rattle.pop_net.specs.NetModel.{NetModel}
+use Rattle.pop_leaf.specs.NetModel.{NetModel}
 use Rattle.pop_net.specs.Lanes.{crowd_of}
 use Rattle.pop_crowd.specs.declared.crowd.Meeting.{Meeting}
 use Rattle.pop_crowd.specs.Replay.{AreMeetings, AreMarked}

@@ -5,7 +5,7 @@ use mathlib.Core.Option.{Option, some}
 use lib.ListN.{get_elem?}
 use Rattle.pop_net.specs.declared.net.Word.{Word}
 use Rattle.pop_net.specs.Lanes.{tuple_of, AreValid}
-use Rattle.pop_net.specs.Step.{Step}
+use Rattle.pop_leaf.specs.Step.{Step}
 use Rattle.pop_crowd.specs.declared.crowd.Meeting.{Meeting}
 use Rattle.pop_crowd.specs.Replay.{reacts}
 use Rattle.agent_field.specs.declared.places.TheConstants.{CLOCK, FOUNDER}

@@ -1,5 +1,5 @@
--- Plays: each play of a seat is a step of the kinds of `EachMomentStands`, with the word that its atomic operation finds
--- and the one that it leaves.
+-- Plays: each play of a seat is a step of the kinds of `EachMomentStands`, with the word that its atomic operation
+-- finds and the one that it leaves.
 use Rattle.std.specs.Prelude.{◌≡◌, ◌≢◌, ◌⊎◌, ℕ, ◌+◌, List, slice_index, slice_set}
 use mathlib.Core.Option.{some}
 use lib.ListN.{get_elem?}

@@ -3,9 +3,9 @@ use Rattle.std.specs.Prelude.{zero, suc, ◌≡◌, ◌≢◌, ℕ, ◌+◌, ◌
 use Rattle.std.specs.Prelude.{slice_index_or, slice_set, replicate, Option as Maybe, Some as Given, None as Missing}
 use Rattle.atomic_table.specs.Table.{Me, Step}
 use Rattle.pop_net.specs.declared.net.Word.{Word}
-use Rattle.pop_net.specs.NetModel.{NetModel}
+use Rattle.pop_leaf.specs.NetModel.{NetModel}
 use Rattle.pop_net.specs.Lanes.{tuple_of, IsValid}
-use Rattle.pop_net.specs.Reaction.{reaction}
+use Rattle.pop_leaf.specs.Reaction.{reaction}
 use Rattle.pop_crowd.specs.declared.crowd.Meeting.{Meeting}
 use Rattle.pop_crowd.specs.Replay.{reacts}
 use Rattle.agent_field.specs.declared.limits.TheConstants.{LOG_LIMIT}

@@ -62,7 +62,8 @@ impl<'n> Field<'n> {
         self.table.shared.fetch_add::<Draw>(token, CLOCK, 1)
     }
 
-    /// Writes an agent's word that is due, unless it stands in its place already: then other processors may keep theirs.
+    /// Writes an agent's word that is due, unless it stands in its place already: then other processors may keep
+    /// theirs.
     pub(crate) fn write(&self, token: &mut Seat<(), View>, a: u32, word: Word)
         requires { MayWrite self.now a word token.old }
         ensures { Becomes token.old token.new (writing a token.old.me.0) }

@@ -4,12 +4,12 @@ use Rattle.std.specs.Prelude.{All}
 use Rattle.json.proofs.Printed.Utf8.{IsUtf8-are_ascii}
 use Rattle.serde_json.specs.Data.{Data, Members, no_members, member, string, boolean}
 use Rattle.pres_ast.specs.PredModel.{IsPred}
-use Rattle.pop_net.specs.declared.leaf.Move.{Move}
-use Rattle.pop_net.specs.declared.net.Item.{Item}
-use Rattle.pop_net.specs.declared.net.Item.TheVariants.{Leaf, Not, And, Or}
-use Rattle.pop_net.specs.declared.limits.TheConstants.{STATE_LIMIT, LEAF_LIMIT}
-use Rattle.pop_net.specs.LeafModel.{LeafModel, IsLeaf, IsMoveBelow}
-use Rattle.pop_net.specs.NetModel.{NetModel, IsNet, NamesBelow}
+use Rattle.pop_leaf.specs.declared.leaf.Move.{Move}
+use Rattle.pop_leaf.specs.declared.item.Item.{Item}
+use Rattle.pop_leaf.specs.declared.item.Item.TheVariants.{Leaf, Not, And, Or}
+use Rattle.pop_leaf.specs.declared.limits.TheConstants.{STATE_LIMIT, LEAF_LIMIT}
+use Rattle.pop_leaf.specs.LeafModel.{LeafModel, IsLeaf, IsMoveBelow}
+use Rattle.pop_leaf.specs.NetModel.{NetModel, IsNet, NamesBelow}
 use Rattle.pres_read.specs.Canonical.{tree_text}
 use Rattle.net_json.specs.Written.{number_data, list_data, texts_data, numbers_data, truths_data, move_data, item_data, leaf_data, format_of, is_helped, net_data}
 use Rattle.cert_base.specs.declared.fact.Term.{Term}

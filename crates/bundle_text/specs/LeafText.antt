@@ -1,7 +1,7 @@
 -- LeafText: how the text of a leaf begins.
 use Rattle.std.specs.Prelude.{ℕ, Bool, true, false, List, ◌++◌, codes}
 use Rattle.serde_json.specs.Written.{compact_text}
-use Rattle.pop_net.specs.LeafModel.{LeafModel}
+use Rattle.pop_leaf.specs.LeafModel.{LeafModel}
 use Rattle.net_json.specs.Written.{numbers_data}
 
 -- what stands before the inputs, in format 1 or in format 2

@@ -4,7 +4,7 @@ use Rattle.serde_json.specs.Written.{compact_text}
 use Rattle.serde_json.specs.Read.{read}
 use Rattle.pop_lines.specs.Lines.{lines_of, ended}
 use Rattle.pres_ast.specs.PredModel.{IsPred}
-use Rattle.pop_net.specs.NetModel.{IsNet}
+use Rattle.pop_leaf.specs.NetModel.{IsNet}
 use Rattle.cert_base.specs.ProofLimits.{IsProofWithin}
 use Rattle.cert_json.specs.declared.bundle.Bundle.{Bundle}
 use Rattle.cert_json.specs.BundleFile.{IsBundleFile}

@@ -4,11 +4,11 @@ use Rattle.std.specs.Prelude.{Some, slice_get, slice_set, nat_le, ◌==◌, All}
 use Rattle.std.proofs.lemmas.Bool.{eq-eqb, le-leb, leb-true, and_from}
 use Rattle.std.proofs.lemmas.Bool.Decides.{eqb_tells}
 use Rattle.std.proofs.lemmas.List.Elements.{All-set}
-use Rattle.pop_net.specs.declared.leaf.Move.{Move}
-use Rattle.pop_net.specs.LeafModel.{LeafModel, IsLeaf, IsMoveBelow, one_at, silent_move}
-use Rattle.pop_net.specs.Step.{LeafMove, LeafStep}
-use Rattle.pop_net.proofs.Quiet.{All-slice_get}
-use Rattle.pop_net.proofs.Reactions.{and_left, and_right}
+use Rattle.pop_leaf.specs.declared.leaf.Move.{Move}
+use Rattle.pop_leaf.specs.LeafModel.{LeafModel, IsLeaf, IsMoveBelow, one_at, silent_move}
+use Rattle.pop_leaf.specs.Step.{LeafMove, LeafStep}
+use Rattle.pop_leaf.proofs.Quiet.{All-slice_get}
+use Rattle.pop_leaf.proofs.Reactions.{and_left, and_right}
 use Rattle.cert_base.proofs.Numbers.{number_in}
 use Rattle.cert_base.proofs.Dead.{IsEnabledIn, number_in-cons}
 use Rattle.list_laws.proofs.Numbers.{Tells}

@@ -5,10 +5,10 @@ use Rattle.std.specs.Prelude.{Some, slice_get}
 use Rattle.std.proofs.Math.Nat.{add-mul, one-mul, zero-mul}
 use Rattle.std.proofs.lemmas.Bool.{eq-eqb}
 use Rattle.std.proofs.lemmas.Bool.Decides.{eqb_tells}
-use Rattle.pop_net.specs.declared.leaf.Move.{Move}
-use Rattle.pop_net.specs.LeafModel.{LeafModel, one_at, times_in_pair, pre, post}
-use Rattle.pop_net.specs.Step.{LeafChange, LeafStep}
-use Rattle.pop_net.specs.Reachable.{Leads}
+use Rattle.pop_leaf.specs.declared.leaf.Move.{Move}
+use Rattle.pop_leaf.specs.LeafModel.{LeafModel, one_at, times_in_pair, pre, post}
+use Rattle.pop_leaf.specs.Step.{LeafChange, LeafStep}
+use Rattle.pop_leaf.specs.Reachable.{Leads}
 use Rattle.cert_base.specs.Valuation.{is_by, times_taken}
 use Rattle.cert_base.proofs.Numbers.{number_in, number_in-meets, before_pre, after_post}
 

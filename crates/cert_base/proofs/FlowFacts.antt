@@ -11,11 +11,11 @@ use Rattle.std.proofs.lemmas.List.{length-map, length-append}
 use Rattle.std.proofs.lemmas.List.FromFn.{length-range_with_len}
 use Rattle.std.proofs.lemmas.List.Folds.{sum_by-replicate}
 use Rattle.std.proofs.lemmas.List.Sums.{sum_by-append}
-use Rattle.pop_net.specs.declared.leaf.Move.{Move}
-use Rattle.pop_net.specs.LeafModel.{LeafModel, one_at, pre, post}
-use Rattle.pop_net.specs.InputCrowd.{starts_from, leaf_input_crowd}
-use Rattle.pop_net.specs.Reachable.{Leads}
-use Rattle.pop_net.specs.Step.{LeafStep}
+use Rattle.pop_leaf.specs.declared.leaf.Move.{Move}
+use Rattle.pop_leaf.specs.LeafModel.{LeafModel, one_at, pre, post}
+use Rattle.pop_leaf.specs.InputCrowd.{starts_from, leaf_input_crowd}
+use Rattle.pop_leaf.specs.Reachable.{Leads}
+use Rattle.pop_leaf.specs.Step.{LeafStep}
 use Rattle.cert_base.specs.declared.fact.Term.{Term}
 use Rattle.cert_base.specs.Rows.{terms_from}
 use Rattle.cert_base.specs.Valuation.{Valuation, terms_value, MeetsFact, times_taken, IsOfExecution}

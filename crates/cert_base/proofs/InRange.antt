@@ -2,12 +2,12 @@
 use Rattle.std.proofs.Common.{◌≡◌, ◌⊎◌, inl, inr, ℕ, ◌+◌, ◌<◌, ◌≤◌, List, [], ◌∷◌, length, replicate, sym, subst, arith}
 use Rattle.std.specs.Prelude.{slice_set, slice_index}
 use Rattle.std.proofs.lemmas.List.Elements.{All-nil, All-set, All-append, All-replicate, All-get_or}
-use Rattle.pop_net.specs.declared.leaf.Move.{Move}
-use Rattle.pop_net.specs.LeafModel.{LeafModel, IsLeaf, IsMoveBelow}
-use Rattle.pop_net.specs.InputCrowd.{starts_from, leaf_input_crowd}
-use Rattle.pop_net.specs.Step.{Follows, LeafChange, LeafStep}
-use Rattle.pop_net.specs.Reachable.{Leads}
-use Rattle.pop_net.proofs.Quiet.{All-slice_get}
+use Rattle.pop_leaf.specs.declared.leaf.Move.{Move}
+use Rattle.pop_leaf.specs.LeafModel.{LeafModel, IsLeaf, IsMoveBelow}
+use Rattle.pop_leaf.specs.InputCrowd.{starts_from, leaf_input_crowd}
+use Rattle.pop_leaf.specs.Step.{Follows, LeafChange, LeafStep}
+use Rattle.pop_leaf.specs.Reachable.{Leads}
+use Rattle.pop_leaf.proofs.Quiet.{All-slice_get}
 use Rattle.cert_base.proofs.Agents.{InRange}
 
 followed_in_range : (n : ℕ) (t : Move) (x y x' y' : ℕ) → IsMoveBelow n t → Follows t x y x' y' ⊎ Follows t y x y' x' → (x' < n) × (y' < n)

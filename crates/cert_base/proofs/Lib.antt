@@ -14,7 +14,6 @@ pub mod InRange
 pub mod Executions
 pub mod WrongEnds
 pub mod Openings
-pub mod Combined
 pub mod TreeKinds
 pub mod WeightedSums
 pub mod FlowSums

@@ -3,13 +3,13 @@ use Rattle.std.proofs.Common.{◌≡◌, ℕ, Bool, true, false, cond, List, [],
 use Rattle.std.specs.Prelude.{Some, None, Option, find, is_some, not, ◌&&◌, ◌||◌, ◌==◌}
 use Rattle.std.specs.List.{list_any}
 use Rattle.std.proofs.lemmas.Bool.{eq-eqb, eqb-true, not-true}
-use Rattle.pop_net.specs.declared.leaf.Move.{Move}
-use Rattle.pop_net.specs.LeafModel.{LeafModel, silent_move, same_pair}
-use Rattle.pop_net.specs.Reaction.{takes_states, after_move, by_move, leaf_reaction}
-use Rattle.pop_net.proofs.Found.{find_some}
-use Rattle.pop_net.proofs.Reactions.{and_left, and_right, or_right}
+use Rattle.pop_leaf.specs.declared.leaf.Move.{Move}
+use Rattle.pop_leaf.specs.LeafModel.{LeafModel, silent_move, same_pair}
+use Rattle.pop_leaf.specs.Reaction.{takes_states, after_move, by_move, leaf_reaction}
+use Rattle.pop_leaf.proofs.Found.{find_some}
+use Rattle.pop_leaf.proofs.Reactions.{and_left, and_right, or_right}
 use Rattle.cert_base.specs.FactsAndCases.{can_meet_in}
-use Rattle.pop_net.proofs.Silent.{stays-silent}
+use Rattle.pop_leaf.proofs.Silent.{stays-silent}
 
 any-find : (test : Move → Bool) (moves : List Move) → list_any test moves ≡ is_some (find test moves)
 any-find test [] = refl

@@ -3,9 +3,9 @@ use Rattle.std.proofs.Common.{◌≡◌, ◌⊎◌, inl, inr, ℕ, ◌+◌, List
 use Rattle.std.specs.Prelude.{Some, slice_get, slice_set, ◌==◌, count_by}
 use Rattle.std.proofs.lemmas.List.Sums.{sum_by-set}
 use Rattle.std.proofs.lemmas.Option.{get_or_from_slice_get, slice_get_within}
-use Rattle.pop_net.specs.declared.leaf.Move.{Move}
-use Rattle.pop_net.specs.LeafModel.{LeafModel, one_at, times_in_pair, pre, post}
-use Rattle.pop_net.specs.Step.{Follows, LeafStep}
+use Rattle.pop_leaf.specs.declared.leaf.Move.{Move}
+use Rattle.pop_leaf.specs.LeafModel.{LeafModel, one_at, times_in_pair, pre, post}
+use Rattle.pop_leaf.specs.Step.{Follows, LeafStep}
 use Rattle.list_laws.proofs.Lists.{slice_get-set_other}
 
 -- how many agents are in state z

@@ -10,7 +10,7 @@ use Rattle.std.proofs.lemmas.List.Elements.{All-nil, All-cons}
 use Rattle.pres_ast.specs.PredTree.{PredTree, LessThan, Congruent, Negation, Conjunction, Disjunction}
 use Rattle.pres_ast.specs.PredModel.{PredModel, HasAtoms}
 use Rattle.pres_ast.specs.PredicateValue.{weighted_sum, is_multiple, predicate_value}
-use Rattle.pop_net.proofs.Reactions.{and_left, and_right}
+use Rattle.pop_leaf.proofs.Reactions.{and_left, and_right}
 use Rattle.cert_base.specs.declared.fact.Term.{Term}
 use Rattle.cert_base.specs.declared.fact.Row.{Row}
 use Rattle.cert_base.specs.declared.fact.Fact.{Fact}

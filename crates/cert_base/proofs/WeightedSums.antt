@@ -17,7 +17,7 @@ use Rattle.cert_base.specs.Rows.{terms_from, zeros}
 use Rattle.cert_base.specs.ClosingTests.{row_of, times, add_rows, scaled, sum_of, coefficient_in, each_coefficient, may_have, all_named, may_add, closes_by_sum, may_add_modulo, closes_by_residue, denies}
 use Rattle.cert_base.proofs.Integers.{mul-add, int_eq-true}
 use Rattle.cert_base.specs.WeightedSums.{sum_of_facts, coefficient, constant_of, may_weigh, StandFrom}
-use Rattle.pop_net.proofs.Reactions.{and_left, and_right}
+use Rattle.pop_leaf.proofs.Reactions.{and_left, and_right}
 
 abbrev pub multiplied : ℤ → List Term → List Term
 multiplied a ts = map (λ t. record { at = t.at; by = a *ℤ t.by }) ts

@@ -2,9 +2,9 @@
 use Rattle.std.proofs.Common.{◌≡◌, ◌⊎◌, inl, inr, ℕ, zero, suc, List, [], ◌∷◌, arith}
 use Rattle.std.specs.Prelude.{Some, ℤ, pos, ◌+ℤ◌, ◌<ℤ◌, slice_get, slice_set}
 use Rattle.std.proofs.lemmas.Int.{ints}
-use Rattle.pop_net.specs.declared.leaf.Move.{Move}
-use Rattle.pop_net.specs.LeafModel.{LeafModel}
-use Rattle.pop_net.specs.Step.{Follows, LeafMove, LeafStep}
+use Rattle.pop_leaf.specs.declared.leaf.Move.{Move}
+use Rattle.pop_leaf.specs.LeafModel.{LeafModel}
+use Rattle.pop_leaf.specs.Step.{Follows, LeafMove, LeafStep}
 use Rattle.cert_base.specs.ValidLayers.{weight_at, IsLower}
 use Rattle.list_laws.proofs.Lists.{slice_get-set_other}
 

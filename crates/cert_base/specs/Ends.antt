@@ -3,11 +3,11 @@ use Rattle.std.specs.Prelude.{◌≡◌, ◌≢◌, ℕ, Bool, false, List, Some
 use Rattle.pres_ast.specs.PredTree.{PredTree}
 use Rattle.pres_ast.specs.PredModel.{PredModel}
 use Rattle.pres_ast.specs.PredicateValue.{predicate_value}
-use Rattle.pop_net.specs.LeafModel.{LeafModel}
-use Rattle.pop_net.specs.InputCrowd.{leaf_input_crowd, IsInput}
-use Rattle.pop_net.specs.Step.{LeafStep}
-use Rattle.pop_net.specs.Reachable.{Leads, Reachable}
-use Rattle.pop_net.specs.Terminal.{IsTerminal}
+use Rattle.pop_leaf.specs.LeafModel.{LeafModel}
+use Rattle.pop_leaf.specs.InputCrowd.{leaf_input_crowd, IsInput}
+use Rattle.pop_leaf.specs.Step.{LeafStep}
+use Rattle.pop_leaf.specs.Reachable.{Leads, Reachable}
+use Rattle.pop_leaf.specs.Terminal.{IsTerminal}
 use Rattle.cert_base.specs.declared.fact.Fact.{Fact}
 use Rattle.cert_base.specs.declared.fact.Fact.TheVariants.{Holds}
 use Rattle.cert_base.specs.Valuation.{Valuation, MeetsFact, IsOfExecution}

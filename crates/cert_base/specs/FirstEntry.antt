@@ -1,6 +1,6 @@
 -- FirstEntry: what the node `First` says of every end.
 use Rattle.std.specs.Prelude.{◌⊎◌, ℕ, List}
-use Rattle.pop_net.specs.LeafModel.{LeafModel}
+use Rattle.pop_leaf.specs.LeafModel.{LeafModel}
 use Rattle.cert_base.specs.declared.fact.Fact.{Fact}
 use Rattle.cert_base.specs.Valuation.{Valuation}
 use Rattle.cert_base.specs.FactsAndCases.{cases_of_first, before_entry, cases_of_entry}

@@ -1,8 +1,8 @@
 -- FlowLaw: what the flow facts add up to when each state has a value.
 use Rattle.std.specs.Prelude.{◌≡◌, ℕ, ◌<◌, ◌≤◌, Bool, ℤ, pos, neg_ℤ, ◌+ℤ◌, ◌-ℤ◌, ◌*ℤ◌, length, map, Some, slice_get}
 use Rattle.pres_ast.specs.PredModel.{PredModel}
-use Rattle.pop_net.specs.declared.leaf.Move.{Move}
-use Rattle.pop_net.specs.LeafModel.{LeafModel, IsLeaf}
+use Rattle.pop_leaf.specs.declared.leaf.Move.{Move}
+use Rattle.pop_leaf.specs.LeafModel.{LeafModel, IsLeaf}
 use Rattle.cert_base.specs.declared.fact.Row.{Row}
 use Rattle.cert_base.specs.Rows.{terms_from, input_variable, state_variable, move_variable, variable_count}
 use Rattle.cert_base.specs.FactsAndCases.{states_of, helpers_starting, base_list}

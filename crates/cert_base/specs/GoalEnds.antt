@@ -2,11 +2,11 @@
 use Rattle.std.specs.Prelude.{◌≡◌, ℕ, Bool, false, List, Some, All, Contains, length, slice_get}
 use Rattle.pres_ast.specs.PredTree.{PredTree}
 use Rattle.pres_ast.specs.PredicateValue.{predicate_value}
-use Rattle.pop_net.specs.LeafModel.{LeafModel}
-use Rattle.pop_net.specs.InputCrowd.{leaf_input_crowd, IsInput}
-use Rattle.pop_net.specs.Step.{LeafStep}
-use Rattle.pop_net.specs.Reachable.{Reachable}
-use Rattle.pop_net.specs.Terminal.{IsTerminal}
+use Rattle.pop_leaf.specs.LeafModel.{LeafModel}
+use Rattle.pop_leaf.specs.InputCrowd.{leaf_input_crowd, IsInput}
+use Rattle.pop_leaf.specs.Step.{LeafStep}
+use Rattle.pop_leaf.specs.Reachable.{Reachable}
+use Rattle.pop_leaf.specs.Terminal.{IsTerminal}
 use Rattle.cert_base.specs.declared.fact.Fact.{Fact}
 use Rattle.cert_base.specs.Valuation.{Valuation}
 use Rattle.cert_base.specs.FactsAndCases.{is_in}
@@ -21,8 +21,8 @@ pub record IsWithinOne (sets : List (List ℕ)) (crowd : List ℕ) : Type 0 wher
   pub listed : Contains sets set
   pub within : IsWithin set crowd
 
--- from each input at which the predicate has this value, each reachable crowd in which `dead` has no step has all agents
--- in one of the sets
+-- from each input at which the predicate has this value, each reachable crowd in which `dead` has no step has all
+-- agents in one of the sets
 abbrev pub EndsInside : (leaf dead : LeafModel) → PredTree → Bool → List (List ℕ) → Type 0
 EndsInside leaf dead tree value sets =
     (counts end : List ℕ) → IsInput (length leaf.inputs) (length leaf.helpers) counts

@@ -8,7 +8,6 @@ pub mod Closes
 pub mod ValidProof
 pub mod ProofLimits
 pub mod StableProof
-pub mod Combination
 pub mod Ends
 pub mod FirstEntry
 pub mod GoalEnds

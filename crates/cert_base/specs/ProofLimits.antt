@@ -1,6 +1,6 @@
 -- ProofLimits: how long the lists of a proof may be, and how great its numbers.
 use Rattle.std.specs.Prelude.{◌≡◌, ℕ, ◌<◌, ◌≤◌, List, [], ◌∷◌, ℤ, nat_abs, length, map, All}
-use Rattle.pop_net.specs.declared.limits.TheConstants.{MOVE_LIMIT, STATE_LIMIT}
+use Rattle.pop_leaf.specs.declared.limits.TheConstants.{MOVE_LIMIT, STATE_LIMIT}
 use Rattle.pres_ast.specs.declared.limits.TheConstants.{MODULUS_LIMIT}
 use Rattle.cert_base.specs.declared.limits.TheConstants.{LAYER_LIMIT, NODE_LIMIT, SET_LIMIT, TERM_LIMIT}
 use Rattle.cert_base.specs.declared.limits.TheConstants.{SIZE_LIMIT, INDEX_COUNT, STATE_INDEX_COUNT}

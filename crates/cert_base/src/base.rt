@@ -5,12 +5,12 @@ ghost use Rattle.cert_base.specs.FactsAndCases.{indicator, states_of, differs, b
 ghost use Rattle.cert_base.specs.FactsAndCases.{two_agents_fact, wrong_output_fact};
 ghost use Rattle.cert_base.specs.Ends.{HoldAtWrongEnds};
 ghost use Rattle.cert_base.specs.Parts.{input_list};
-ghost use Rattle.pop_net.specs.LeafModel.{IsLeaf};
+ghost use Rattle.pop_leaf.specs.LeafModel.{IsLeaf};
 
 use crate::fact::{Fact, Row};
 use crate::flow::flow_facts;
 use pop_io::{List, NoMemory};
-use pop_net::Leaf;
+use pop_leaf::Leaf;
 use pres_ast::Pred;
 use std::alloc::Global;
 

@@ -2,7 +2,7 @@
 
 ghost use Rattle.std.specs.Prelude.{◌≡◌, ◌<◌, ◌+◌, length, map, IfOk, OnOk, pos, []};
 ghost use Rattle.std.specs.List.{zip};
-ghost use Rattle.pop_net.specs.LeafModel.{IsLeaf, times_in_pair};
+ghost use Rattle.pop_leaf.specs.LeafModel.{IsLeaf, times_in_pair};
 ghost use Rattle.cert_base.specs.FactsAndCases.{flow, states_of, helpers_starting};
 ghost use Rattle.cert_base.specs.Parts.{change_at, input_terms_from, flow_terms};
 ghost use Rattle.cert_base.specs.Parts.{flow_rows_after, entered_rows};
@@ -13,7 +13,7 @@ use crate::helpers::helpers_in;
 use crate::terms::Terms;
 use crate::variables::{variable_of_input, variable_of_move, variable_of_state};
 use pop_io::NoMemory;
-use pop_net::{Leaf, Move};
+use pop_leaf::{Leaf, Move};
 use std::alloc::Global;
 
 /// The flow fact of each state, in their order.

@@ -3,7 +3,7 @@
 ghost use Rattle.std.specs.Prelude.{◌≡◌};
 ghost use Rattle.cert_base.specs.FactsAndCases.{helpers_starting};
 
-use pop_net::Leaf;
+use pop_leaf::Leaf;
 
 /// How many helpers are in a state.
 pub(crate) fn helpers_in(leaf: &Leaf, q: u16) -> u32

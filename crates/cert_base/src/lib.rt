@@ -1,10 +1,9 @@
 //! Proofs that a net computes a predicate: ranking layers, and trees of cases over facts.
-//! It stands on `pop_net` and `pres_ast`.
+//! It stands on `pop_leaf` and `pres_ast`.
 //! The layer above uses: the definitions of valid layers and proofs, of facts, cases and closing tests.
 #![tactic(auto)]
 
 mod base;
-mod combination;
 mod fact;
 mod flow;
 mod helpers;
@@ -23,7 +22,6 @@ mod terms;
 mod variables;
 
 pub use base::base_facts;
-pub use combination::net_pred_is;
 pub use fact::{Fact, Row, Term, only};
 pub use flow::flow_facts;
 pub use law::flow_law;

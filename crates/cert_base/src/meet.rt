@@ -3,7 +3,7 @@
 ghost use Rattle.std.specs.Prelude.{◌≡◌, ◌<◌, ◌||◌, ◌==◌, not, length};
 ghost use Rattle.cert_base.specs.FactsAndCases.{can_meet_in};
 
-use pop_net::Leaf;
+use pop_leaf::Leaf;
 
 /// Whether a move that isn't silent takes both states: exactly when a reaction changes them.
 pub fn can_meet(leaf: &Leaf, p: u16, q: u16) -> bool

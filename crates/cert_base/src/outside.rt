@@ -7,7 +7,7 @@ ghost use Rattle.cert_base.specs.GoalEnds.{HoldAtOutsideEnds};
 use crate::base::input_facts;
 use crate::fact::{Fact, Row};
 use pop_io::{List, NoMemory};
-use pop_net::Leaf;
+use pop_leaf::Leaf;
 use pres_ast::Pred;
 use std::alloc::Global;
 

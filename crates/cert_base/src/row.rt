@@ -4,7 +4,7 @@ use crate::fact::{Row, Term};
 use crate::terms::Terms;
 use crate::variables::{variable_of_input, variable_of_move, variable_of_state};
 use pop_io::{List, NoMemory};
-use pop_net::Leaf;
+use pop_leaf::Leaf;
 use std::alloc::Global;
 
 impl Row {

@@ -1,11 +1,11 @@
 //! The numbers of a leaf's variables.
 
 ghost use Rattle.std.specs.Prelude.{◌≡◌, ◌≤◌, length};
-ghost use Rattle.pop_net.specs.LeafModel.{IsLeaf};
+ghost use Rattle.pop_leaf.specs.LeafModel.{IsLeaf};
 ghost use Rattle.cert_base.specs.declared.limits.TheConstants.{INDEX_COUNT};
 ghost use Rattle.cert_base.specs.Rows.{state_variable, move_variable, variable_count};
 
-use pop_net::Leaf;
+use pop_leaf::Leaf;
 
 /// The variable of an input: how often it was given.
 pub fn variable_of_input(i: u16) -> u32

@@ -4,7 +4,7 @@ use Rattle.std.specs.Prelude.{ℤ, ◌==◌, Contains, filter, negsuc, slice_ind
 use Rattle.std.proofs.lemmas.Bool.{cases_Bool}
 use Rattle.std.proofs.lemmas.Bool.Decides.{eqb_tells}
 use Rattle.list_laws.proofs.Lists.{has_first, has_later}
-use Rattle.pop_net.specs.LeafModel.{LeafModel}
+use Rattle.pop_leaf.specs.LeafModel.{LeafModel}
 use Rattle.cert_base.specs.declared.fact.Fact.TheVariants.{Ge, Holds}
 use Rattle.cert_base.specs.Rows.{state_row}
 use Rattle.cert_base.specs.FactsAndCases.{indicator, is_in, states_of, flow, two_agents_fact, differs, wrong_output_fact, outside_fact, states_with}

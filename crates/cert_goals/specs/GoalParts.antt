@@ -3,7 +3,7 @@ use Rattle.std.specs.Prelude.{ℕ, Bool, List, [], Result, OnOk}
 use Rattle.pop_io.specs.declared.failure.Failure.{Failure}
 use Rattle.pop_io.specs.Failures.{IfFault, OnlyMemory}
 use Rattle.pres_ast.specs.PredModel.{PredModel}
-use Rattle.pop_net.specs.LeafModel.{LeafModel}
+use Rattle.pop_leaf.specs.LeafModel.{LeafModel}
 use Rattle.cert_base.specs.declared.layer.Layer.{Layer}
 use Rattle.cert_base.specs.declared.node.Node.{Node}
 use Rattle.cert_base.specs.FactsAndCases.{goal_list}

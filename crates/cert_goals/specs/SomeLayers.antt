@@ -1,9 +1,9 @@
 -- SomeLayers: layers of some moves of a leaf.
 use Rattle.std.specs.Prelude.{ℕ, ◌*◌, ◌<◌, ◌≤◌, List, length, All, Result, IfOk}
 use Rattle.pop_io.specs.declared.failure.Failure.{Failure}
-use Rattle.pop_net.specs.LeafModel.{LeafModel}
-use Rattle.pop_net.specs.Step.{LeafStep}
-use Rattle.pop_net.specs.Reachable.{ReachedWithin}
+use Rattle.pop_leaf.specs.LeafModel.{LeafModel}
+use Rattle.pop_leaf.specs.Step.{LeafStep}
+use Rattle.pop_leaf.specs.Reachable.{ReachedWithin}
 use Rattle.pop_hushed.specs.Laws.{NoneCanTake}
 use Rattle.cert_base.specs.declared.layer.Layer.{Layer}
 use Rattle.cert_base.specs.ValidLayers.{moves_of_layers}

@@ -18,7 +18,7 @@ use cert_base::{Goal, Node};
 use cert_sets::{GoalMoves, checked_sets, kept_leaf};
 use cert_tree::check_goal_tree;
 use pop_io::{Failure, List, NoMemory};
-use pop_net::Leaf;
+use pop_leaf::Leaf;
 use pres_ast::Pred;
 use std::alloc::Global;
 

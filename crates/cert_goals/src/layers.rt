@@ -7,7 +7,7 @@ use cert_base::Layer;
 use cert_layers::{LayerWhy, check_layers};
 use cert_sets::{GoalMoves, kept_leaf};
 use pop_io::{Failure, List};
-use pop_net::Leaf;
+use pop_leaf::Leaf;
 use std::alloc::Global;
 
 /// Whether the layers are valid for the leaf in which the moves that they list are kept and all others are silent, and

@@ -10,7 +10,7 @@ use Rattle.json_shape.specs.Shapes.{object_at, member_at, member_by}
 use Rattle.json_shape.proofs.Steps.{bind_ok, same_ok}
 use Rattle.json_shape.proofs.Readers
 use Rattle.pres_ast.specs.PredModel.{PredModel}
-use Rattle.pop_net.specs.NetModel.{NetModel}
+use Rattle.pop_leaf.specs.NetModel.{NetModel}
 use Rattle.net_json.specs.Examined.{net_at}
 use Rattle.net_json.proofs.NetLaws.{net_at-takes, net_at-again}
 use Rattle.cert_base.specs.declared.proof.Proof.{Proof}

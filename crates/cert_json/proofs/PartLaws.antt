@@ -14,7 +14,7 @@ use Rattle.cert_base.specs.declared.fact.Term.{Term}
 use Rattle.cert_base.specs.declared.layer.Layer.{Layer}
 use Rattle.cert_base.specs.ProofLimits.{IsSmall, IsAscending, IsTermWithin, AreTermsWithin, IsSetWithin, IsLayerWithin}
 use Rattle.cert_base.specs.declared.limits.TheConstants.{LAYER_LIMIT, TERM_LIMIT, SIZE_LIMIT}
-use Rattle.pop_net.specs.declared.limits.TheConstants.{STATE_LIMIT, MOVE_LIMIT}
+use Rattle.pop_leaf.specs.declared.limits.TheConstants.{STATE_LIMIT, MOVE_LIMIT}
 use Rattle.cert_json.specs.ProofFile.{IsTerm, IsLayerFile}
 use Rattle.cert_json.specs.Examined.{index_at, state_at, small_at, term_from, term_at, term_item, terms_at, row_term_at, numbers_of, row_term_item, row_terms_at, set_state_item, set_states_at, index_item, layer_moves_at, weight_item, weights_at, layer_at, layer_item, layers_at}
 use Rattle.cert_json.proofs.Sets

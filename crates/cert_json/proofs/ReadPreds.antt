@@ -7,7 +7,7 @@ use Rattle.serde_json.specs.Data.{Data}
 use Rattle.json_shape.specs.Parts.{AreItems}
 use Rattle.json_shape.specs.Shapes.{listed}
 use Rattle.pop_io.specs.declared.names.TheConstants.{VARIABLE_LIMIT}
-use Rattle.pop_net.specs.NetModel.{IsNet}
+use Rattle.pop_leaf.specs.NetModel.{IsNet}
 use Rattle.pres_ast.specs.declared.limits.TheConstants.{WEIGHT_LIMIT}
 use Rattle.pres_ast.specs.PredTree.{PredTree}
 use Rattle.pres_ast.specs.PredModel.{PredModel, HasAtoms, IsPred}

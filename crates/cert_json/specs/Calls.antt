@@ -4,7 +4,7 @@ use Rattle.serde_json.specs.Data.{Data}
 use Rattle.json_shape.specs.declared.fault.FormatFault.{FormatFault}
 use Rattle.json_shape.specs.declared.fault.FormatFault.TheVariants.{NoMemory}
 use Rattle.json_shape.specs.Faults.{GivesRead}
-use Rattle.pop_net.specs.NetModel.{NetModel}
+use Rattle.pop_leaf.specs.NetModel.{NetModel}
 use Rattle.cert_base.specs.declared.proof.Proof.{Proof}
 use Rattle.cert_base.specs.ProofLimits.{IsProofWithin}
 use Rattle.cert_json.specs.declared.bundle.Bundle.{Bundle}

@@ -22,7 +22,7 @@ use Rattle.cert_base.specs.declared.proof.Proof.{Proof}
 use Rattle.cert_base.specs.declared.proof.LeafProof.{LeafProof}
 use Rattle.cert_base.specs.declared.limits.TheConstants.{LAYER_LIMIT, NODE_LIMIT, TERM_LIMIT, SIZE_LIMIT}
 use Rattle.cert_base.specs.declared.limits.TheConstants.{INDEX_COUNT, STATE_INDEX_COUNT}
-use Rattle.pop_net.specs.declared.limits.TheConstants.{STATE_LIMIT, MOVE_LIMIT}
+use Rattle.pop_leaf.specs.declared.limits.TheConstants.{STATE_LIMIT, MOVE_LIMIT}
 use Rattle.pres_ast.specs.declared.limits.TheConstants.{MODULUS_LIMIT}
 use Rattle.cert_json.specs.declared.kind.NodeKind.{NodeKind}
 use Rattle.cert_json.specs.declared.kind.NodeKind.TheVariants as kind

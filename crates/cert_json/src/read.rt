@@ -165,8 +165,8 @@ fn proof_of(alloc: Global, value: &Value, net: &Net) -> Result<Proof, FormatFaul
 /// the whole bundle: if it lacks the member, or is no object, the fault is `Kind` at `/proof`.
 ///
 /// The proof has one object for each leaf. The members are examined in order. Of a leaf these are `pred`, `layers`,
-/// `true`, `false`; of a layer `moves`, `weights`. Of a node it is its word, then how many items it has, then each item.
-/// Each is examined whole before the next is looked for. Other members are ignored.
+/// `true`, `false`; of a layer `moves`, `weights`. Of a node it is its word, then how many items it has, then each
+/// item. Each is examined whole before the next is looked for. Other members are ignored.
 pub fn read_proof(alloc: Global, value: &Value, net: &Net) -> Result<Proof, FormatFault>
     ensures { IsReadProof net.now (view value.now) result }
 {

@@ -4,17 +4,17 @@ use Rattle.std.specs.Prelude.{Option, Some, None, slice_get, nat_lt, ◌==◌}
 use Rattle.std.specs.List.{list_any, range_with_len}
 use Rattle.std.proofs.lemmas.Bool.{and_cases, and_left, and_right, or_parts, or_cases, not-false, ltb-true, lt-ltb, cases_Bool, cases_lt, eqb-true}
 use Rattle.std.proofs.lemmas.Option.{slice_get_within, slice_get_past}
-use Rattle.pop_net.specs.declared.leaf.Move.{Move}
-use Rattle.pop_net.specs.LeafModel.{LeafModel, IsLeaf, IsMoveBelow, silent_move}
-use Rattle.pop_net.proofs.Quiet.{All-slice_get}
-use Rattle.pop_net.specs.FirstFault.{first_below}
-use Rattle.pop_net.proofs.FirstFault.{none_below}
+use Rattle.pop_leaf.specs.declared.leaf.Move.{Move}
+use Rattle.pop_leaf.specs.LeafModel.{LeafModel, IsLeaf, IsMoveBelow, silent_move}
+use Rattle.pop_leaf.proofs.Quiet.{All-slice_get}
+use Rattle.pop_leaf.specs.FirstFault.{first_below}
+use Rattle.pop_leaf.proofs.FirstFault.{none_below}
 use Rattle.cert_layers.specs.declared.pairs.TheConstants.{NO_LAYER}
 use Rattle.cert_layers.specs.MoveLayers.{layer_of}
 use Rattle.cert_layers.specs.Search.{some_move, some_layer}
 use Rattle.cert_layers.specs.Waking.{first_at, is_early, IsEarly, IsWakingTable, brings_state, wakes_with_state, wakes_states, wakes_early, wakes_beside_state, may_wake_any, wakes_numbered, wakes_at, FindsFirst}
 use Rattle.cert_layers.proofs.Firsts.{first_below-Some, list_any-none}
-use Rattle.pop_net.proofs.Within.{move_small}
+use Rattle.pop_leaf.proofs.Within.{move_small}
 
 pub right_false : (a b : Bool) → a ≡ true → (a && b) ≡ false → b ≡ false
 right_false true b is e = e

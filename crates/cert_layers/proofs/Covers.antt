@@ -3,10 +3,10 @@ use Rattle.std.proofs.Common.{◌≡◌, ◌≢◌, ◌⊎◌, inl, inr, ℕ, �
 use Rattle.std.specs.Prelude.{◌==◌}
 use Rattle.std.proofs.lemmas.Bool.{eq-eqb, eqb-true, eqb-false, or_cases, or_parts, false≢true}
 use Rattle.std.proofs.lemmas.Bool.Decides.{eqb_tells}
-use Rattle.pop_net.specs.declared.leaf.Move.{Move}
-use Rattle.pop_net.specs.LeafModel.{one_at, times_in_pair, post}
+use Rattle.pop_leaf.specs.declared.leaf.Move.{Move}
+use Rattle.pop_leaf.specs.LeafModel.{one_at, times_in_pair, post}
 use Rattle.cert_layers.specs.Waking.{brings_state, brings_two_states}
-use Rattle.pop_net.proofs.Silent.{one_self}
+use Rattle.pop_leaf.proofs.Silent.{one_self}
 
 -- a state is z and counts once, or is another and doesn't count
 abbrev One : ℕ → ℕ → Type 0

@@ -3,9 +3,9 @@ use Rattle.std.proofs.Common.{◌≡◌, ℕ, ◌≤◌, List, length, arith}
 use Rattle.std.specs.Prelude.{Option, Some, None}
 use Rattle.std.proofs.lemmas.Option.{slice_get_within}
 use Rattle.cert_base.specs.declared.limits.TheConstants.{LAYER_LIMIT}
-use Rattle.pop_net.specs.LeafModel.{LeafModel, IsLeaf}
-use Rattle.pop_net.specs.FirstFault.{first_below}
-use Rattle.pop_net.proofs.FirstFault.{none_below}
+use Rattle.pop_leaf.specs.LeafModel.{LeafModel, IsLeaf}
+use Rattle.pop_leaf.specs.FirstFault.{first_below}
+use Rattle.pop_leaf.proofs.FirstFault.{none_below}
 use Rattle.cert_base.specs.declared.layer.Layer.{Layer}
 use Rattle.cert_layers.specs.LayerFaults.{ListedAt, LowerAt, SleepsAt, Each, IsFirstFailing}
 use Rattle.cert_layers.specs.MoveLayers.{AreMoveLayers}

@@ -3,7 +3,7 @@ use Rattle.std.proofs.Common.{◌≡◌, ℕ, zero, suc, ◌+◌, ◌<◌, ◌�
 use Rattle.std.specs.Prelude.{Some, find}
 use Rattle.std.specs.List.{range_with_len, list_any}
 use Rattle.std.proofs.lemmas.Bool.{or_parts, cases_eq}
-use Rattle.pop_net.specs.FirstFault.{first_below}
+use Rattle.pop_leaf.specs.FirstFault.{first_below}
 
 -- what the first is, of n numbers from a on
 abbrev IsFirstFrom : (ℕ → Bool) → ℕ → ℕ → ℕ → Type 0

@@ -8,9 +8,9 @@ use Rattle.std.proofs.lemmas.Bool.{not-true, not-false, and_parts, false≢true}
 use Rattle.std.proofs.lemmas.List.{get_or_default}
 use Rattle.std.proofs.lemmas.List.Elements.{Contains-append_left, Contains-append_right}
 use Rattle.std.proofs.lemmas.Option.{get_or_from_slice_get, slice_get_within}
-use Rattle.pop_net.specs.declared.leaf.Move.{Move}
-use Rattle.pop_net.specs.LeafModel.{LeafModel, IsLeaf, IsMoveBelow, silent_move}
-use Rattle.pop_net.proofs.Quiet.{All-slice_get}
+use Rattle.pop_leaf.specs.declared.leaf.Move.{Move}
+use Rattle.pop_leaf.specs.LeafModel.{LeafModel, IsLeaf, IsMoveBelow, silent_move}
+use Rattle.pop_leaf.proofs.Quiet.{All-slice_get}
 use Rattle.cert_base.specs.declared.layer.Layer.{Layer}
 use Rattle.cert_base.specs.ValidLayers.{weight_at, IsLower, moves_of_layers, IsInLayer}
 use Rattle.cert_layers.specs.LayerFaults.{ListedAt, LowerAt}

@@ -9,12 +9,12 @@ use Rattle.std.proofs.lemmas.List.Sums.{sum_by-cons}
 use Rattle.std.proofs.lemmas.List.Elements.{Contains-append_cases}
 use Rattle.std.proofs.lemmas.Bool.{cases_lt}
 use Rattle.std.proofs.lemmas.Option.{get_or_from_slice_get, slice_get_within}
-use Rattle.pop_net.specs.declared.leaf.Move.{Move}
-use Rattle.pop_net.specs.LeafModel.{LeafModel, IsLeaf, silent_move}
-use Rattle.pop_net.specs.Step.{LeafChange, LeafStep}
-use Rattle.pop_net.specs.Reachable.{Leads, ReachedWithin}
-use Rattle.pop_net.specs.Terminal.{IsTerminal}
-use Rattle.pop_net.proofs.Quiet.{All-slice_get, set_same}
+use Rattle.pop_leaf.specs.declared.leaf.Move.{Move}
+use Rattle.pop_leaf.specs.LeafModel.{LeafModel, IsLeaf, silent_move}
+use Rattle.pop_leaf.specs.Step.{LeafChange, LeafStep}
+use Rattle.pop_leaf.specs.Reachable.{Leads, ReachedWithin}
+use Rattle.pop_leaf.specs.Terminal.{IsTerminal}
+use Rattle.pop_leaf.proofs.Quiet.{All-slice_get, set_same}
 use Rattle.pop_net.proofs.Tuples.{meets_length}
 use Rattle.cert_base.specs.declared.layer.Layer.{Layer}
 use Rattle.cert_base.specs.ProofBound.{weights_spread, layers_bound}

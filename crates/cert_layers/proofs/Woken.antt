@@ -3,11 +3,11 @@ use Rattle.std.proofs.Common.{◌≡◌, ◌⊎◌, inl, inr, ℕ, ◌+◌, ◌-
 use Rattle.std.specs.Prelude.{Option, Some, None, slice_get, nat_lt}
 use Rattle.std.proofs.lemmas.Bool.{and_parts, and_cases, or_parts, or_cases, not-true, not-false, ltb-true, lt-ltb, cases_Bool, false≢true}
 use Rattle.std.proofs.lemmas.Option.{slice_get_within}
-use Rattle.pop_net.specs.declared.limits.TheConstants.{STATE_LIMIT}
+use Rattle.pop_leaf.specs.declared.limits.TheConstants.{STATE_LIMIT}
 use Rattle.cert_layers.specs.declared.pairs.TheConstants.{NO_LAYER}
 use Rattle.cert_base.specs.declared.limits.TheConstants.{LAYER_LIMIT}
-use Rattle.pop_net.specs.declared.leaf.Move.{Move}
-use Rattle.pop_net.specs.LeafModel.{LeafModel, IsLeaf, IsMoveBelow, one_at, times_in_pair, pre, post, silent_move}
+use Rattle.pop_leaf.specs.declared.leaf.Move.{Move}
+use Rattle.pop_leaf.specs.LeafModel.{LeafModel, IsLeaf, IsMoveBelow, one_at, times_in_pair, pre, post, silent_move}
 use Rattle.cert_base.specs.declared.layer.Layer.{Layer}
 use Rattle.cert_base.specs.ValidLayers.{IsInLayer}
 use Rattle.cert_layers.specs.LayerFaults.{WakesNone, SleepsAt}
@@ -17,7 +17,7 @@ use Rattle.cert_layers.specs.Waking.{first_at, is_early, IsPair, IsWakingTable, 
 use Rattle.cert_layers.proofs.Asleep.{wakes_at-placed, wakes-brought, wakes-other, right_false}
 use Rattle.cert_layers.proofs.Covers.{Like, times-like, within_two, within_three, left_none, left_one, left_both}
 use Rattle.cert_layers.proofs.NotLower.{in_layer, in_place, some_move-true}
-use Rattle.pop_net.proofs.Within.{move_small}
+use Rattle.pop_leaf.proofs.Within.{move_small}
 
 -- a move of an earlier layer that takes x and y
 abbrev EarlyMove : LeafModel → List Layer → ℕ → ℕ → ℕ → Type 0

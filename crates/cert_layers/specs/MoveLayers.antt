@@ -2,7 +2,7 @@
 use Rattle.std.specs.Prelude.{◌≡◌, ℕ, ◌==◌, ◌&&◌, not, nat_lt, List, [], ◌∷◌, length, Contains}
 use Rattle.std.specs.Prelude.{Option, Some, None, is_some, if◌then◌else◌, option_and_then, Result, Ok, Err, slice_get}
 use Rattle.std.specs.List.{slice_index_or, slice_set}
-use Rattle.pop_net.specs.LeafModel.{LeafModel}
+use Rattle.pop_leaf.specs.LeafModel.{LeafModel}
 use Rattle.cert_base.specs.declared.layer.Layer.{Layer}
 use Rattle.cert_layers.specs.LayerFaults.{Each, ShapedAt, IsFirstFailing}
 use Rattle.pop_io.specs.declared.failure.Failure.{Failure}

@@ -1,7 +1,7 @@
 //! The check of the layers of a leaf.
 
 ghost use Rattle.std.specs.Prelude.{◌≡◌, IfOk, OnOk};
-ghost use Rattle.pop_net.specs.LeafModel.{IsLeaf};
+ghost use Rattle.pop_leaf.specs.LeafModel.{IsLeaf};
 ghost use Rattle.cert_layers.specs.MoveLayers.{AreMoveLayers};
 ghost use Rattle.cert_base.specs.ValidLayers.{ValidLayers};
 ghost use Rattle.cert_base.specs.ProofBound.{layers_bound};

@@ -2,8 +2,8 @@
 
 ghost use Rattle.std.specs.Prelude.{◌≡◌, ◌<◌, ◌+ℤ◌, length, All};
 ghost use Rattle.cert_base.specs.ValidLayers.{weight_at};
-ghost use Rattle.pop_net.specs.FirstFault.{first_below};
-ghost use Rattle.pop_net.specs.LeafModel.{IsLeaf};
+ghost use Rattle.pop_leaf.specs.FirstFault.{first_below};
+ghost use Rattle.pop_leaf.specs.LeafModel.{IsLeaf};
 ghost use Rattle.cert_layers.specs.LayerFaults.{IsWeight};
 ghost use Rattle.cert_layers.specs.MoveLayers.{AreMoveLayers};
 ghost use Rattle.cert_layers.specs.Search.{is_unlisted_move, is_lower_after, not_lower};

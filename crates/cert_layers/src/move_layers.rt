@@ -1,7 +1,7 @@
 //! The layer of each move.
 
 ghost use Rattle.std.specs.Prelude.{◌≡◌, ◌≤◌, length, Some, None, IfOk, MatchBool, replicate};
-ghost use Rattle.pop_net.specs.LeafModel.{IsLeaf};
+ghost use Rattle.pop_leaf.specs.LeafModel.{IsLeaf};
 ghost use Rattle.cert_layers.specs.MoveLayers.{enter_all, entered_layer, FindsMoveLayers};
 
 use crate::fault::LayerWhy;

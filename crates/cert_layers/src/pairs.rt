@@ -2,7 +2,7 @@
 
 ghost use Rattle.std.specs.Prelude.{◌≡◌, ◌+◌, ◌*◌, ◌<◌, min, length, IfOk};
 ghost use Rattle.std.specs.List.{slice_set};
-ghost use Rattle.pop_net.specs.LeafModel.{IsLeaf};
+ghost use Rattle.pop_leaf.specs.LeafModel.{IsLeaf};
 ghost use Rattle.cert_layers.specs.Waking.{first_at, is_early, empty_table, IsWakingTable};
 
 use pop_io::List;

@@ -6,8 +6,8 @@
 
 ghost use Rattle.std.specs.Prelude.{◌≡◌, ◌<◌, ◌≤◌, length, Some};
 ghost use Rattle.std.specs.List.{list_any, range_with_len};
-ghost use Rattle.pop_net.specs.FirstFault.{first_below};
-ghost use Rattle.pop_net.specs.LeafModel.{IsLeaf, IsMoveBelow};
+ghost use Rattle.pop_leaf.specs.FirstFault.{first_below};
+ghost use Rattle.pop_leaf.specs.LeafModel.{IsLeaf, IsMoveBelow};
 ghost use Rattle.cert_layers.specs.Waking.{is_early, brings_state, brings_two_states, wakes_with_state};
 ghost use Rattle.cert_layers.specs.Waking.{wakes_states, wakes_beside_state, may_wake_any};
 ghost use Rattle.cert_layers.specs.Waking.{wakes_numbered, wakes_at, IsWakingTable, FindsFirst, FindsWaking};

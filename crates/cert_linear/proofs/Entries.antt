@@ -16,7 +16,7 @@ use Rattle.cert_base.specs.ClosingTests.{coefficient_in, each_coefficient}
 use Rattle.cert_linear.specs.declared.sum.Entry.{Entry}
 use Rattle.cert_linear.specs.declared.sum.Sum.{Sum}
 use Rattle.cert_linear.specs.Sums.{blank, entry_at, rest_at, coefficient_of, AreTidy, AreRests, IsTidy, IsSum, AreSum, IsListedIfPositive, HasAllPositive}
-use Rattle.pop_net.proofs.Reactions.{and_left, and_right}
+use Rattle.pop_leaf.proofs.Reactions.{and_left, and_right}
 use Rattle.cert_linear.proofs.RowValues.{each_coefficient-at}
 use Rattle.list_laws.proofs.Lists.{take_one_more}
 use Rattle.list_laws.proofs.Numbers.{size-add, Tells}

@@ -5,8 +5,8 @@ use Rattle.std.specs.Int.Signed.{le_z_yes}
 use Rattle.std.proofs.Math.IntN.{*ℤ-zero, *ℤ_comm}
 use Rattle.std.proofs.lemmas.Float.{T_from_true}
 use Rattle.std.proofs.lemmas.Int.{ints}
-use Rattle.pop_net.proofs.Reactions.{and_left, and_right}
-use Rattle.pop_net.proofs.Quiet.{All-slice_get}
+use Rattle.pop_leaf.proofs.Reactions.{and_left, and_right}
+use Rattle.pop_leaf.proofs.Quiet.{All-slice_get}
 use Rattle.cert_base.specs.declared.fact.Term.{Term}
 use Rattle.cert_base.specs.declared.fact.Row.{Row}
 use Rattle.cert_base.specs.declared.fact.Fact.{Fact}

@@ -6,8 +6,8 @@ use Rattle.std.proofs.Math.Nat.{div-add-mod, mul-mod_left}
 use Rattle.std.proofs.Math.IntN.{*ℤ-zero, zero-*ℤ, *ℤ_comm}
 use Rattle.std.proofs.lemmas.Int.{ints}
 use Rattle.std.proofs.lemmas.Bool.{eqb-true, eq-eqb, or_cases}
-use Rattle.pop_net.proofs.Reactions.{and_left, and_right}
-use Rattle.pop_net.proofs.Quiet.{All-slice_get}
+use Rattle.pop_leaf.proofs.Reactions.{and_left, and_right}
+use Rattle.pop_leaf.proofs.Quiet.{All-slice_get}
 use Rattle.pres_ast.specs.PredicateValue.{is_multiple}
 use Rattle.cert_base.specs.declared.fact.Term.{Term}
 use Rattle.cert_base.specs.declared.fact.Row.{Row}

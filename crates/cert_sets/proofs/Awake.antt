@@ -4,18 +4,18 @@ use Rattle.std.specs.Prelude.{Some, slice_get, Contains, ◌==◌}
 use Rattle.std.proofs.lemmas.Bool.{and_parts, and_cases, or_parts, or_cases, not-true, not-false, cases_Bool, false≢true}
 use Rattle.std.proofs.lemmas.Bool.Decides.{eqb_tells}
 use Rattle.std.proofs.lemmas.Option.{slice_get_within, slice_get-get_or, get_or_from_slice_get}
-use Rattle.pop_net.specs.declared.leaf.Move.{Move}
-use Rattle.pop_net.specs.LeafModel.{LeafModel, one_at, times_in_pair, same_pair, pre, post, silent_move}
-use Rattle.pop_net.specs.Reaction.{takes_states}
-use Rattle.pop_net.proofs.Reactions.{or_right}
-use Rattle.pop_net.proofs.Silent.{same_pair_cases, same-self, same-other, one_self}
+use Rattle.pop_leaf.specs.declared.leaf.Move.{Move}
+use Rattle.pop_leaf.specs.LeafModel.{LeafModel, one_at, times_in_pair, same_pair, pre, post, silent_move}
+use Rattle.pop_leaf.specs.Reaction.{takes_states}
+use Rattle.pop_leaf.proofs.Reactions.{or_right}
+use Rattle.pop_leaf.proofs.Silent.{same_pair_cases, same-self, same-other, one_self}
 use Rattle.cert_base.specs.FactsAndCases.{is_in, can_meet_in}
 use Rattle.cert_base.proofs.ListTests.{list_any-contains}
 use Rattle.cert_base.proofs.WeightedSums.{list_any-from}
 use Rattle.cert_layers.specs.Waking.{IsPair, brings_state, brings_two_states, wakes_with_state, wakes_states}
 use Rattle.cert_layers.proofs.Asleep.{wakes-brought, wakes-other, right_false}
 use Rattle.cert_layers.proofs.Covers.{Like, times-like, within_two, within_three, left_none, left_one, left_both}
-use Rattle.pop_net.specs.Hushed.{hushed}
+use Rattle.pop_leaf.specs.Hushed.{hushed}
 use Rattle.pop_hushed.specs.Laws.{IsKeptMove}
 use Rattle.pop_hushed.proofs.Kept.{kept_listed, listed_kept}
 use Rattle.pop_hushed.proofs.Moves.{hushed_move, kept_move}

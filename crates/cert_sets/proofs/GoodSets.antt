@@ -7,10 +7,10 @@ use Rattle.list_laws.proofs.Options.{same_value}
 use Rattle.pop_io.specs.declared.failure.Failure.{Failure}
 use Rattle.pop_io.specs.declared.failure.Failure.TheVariants.{Fault, NoMemory}
 use Rattle.pop_io.specs.Failures.{IfFault, OnlyMemory}
-use Rattle.pop_net.specs.LeafModel.{LeafModel}
-use Rattle.pop_net.proofs.Quiet.{All-slice_get}
+use Rattle.pop_leaf.specs.LeafModel.{LeafModel}
+use Rattle.pop_leaf.proofs.Quiet.{All-slice_get}
 use Rattle.cert_layers.specs.LayerFaults.{Each}
-use Rattle.pop_net.specs.Hushed.{hushed}
+use Rattle.pop_leaf.specs.Hushed.{hushed}
 use Rattle.cert_sets.specs.declared.fault.SetFault.{SetFault}
 use Rattle.cert_sets.specs.declared.fault.SetFault.TheVariants.{Output, Leaves, Wakes}
 use Rattle.goal_sets.specs.Stays.{escapes, SleepIn, IsGuardedAt, IsGuarded}

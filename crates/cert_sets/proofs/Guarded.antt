@@ -3,14 +3,14 @@ use Rattle.std.proofs.Common.{◌≡◌, inl, inr, ℕ, true, false, ◌&&◌, L
 use Rattle.std.specs.Prelude.{Some, None, slice_get}
 use Rattle.std.proofs.lemmas.Bool.{and_parts, and_from, false≢true}
 use Rattle.std.proofs.lemmas.Option.{slice_get_within}
-use Rattle.pop_net.specs.LeafModel.{LeafModel}
-use Rattle.pop_net.specs.FirstFault.{first_below}
-use Rattle.pop_net.proofs.FirstFault.{none_below}
+use Rattle.pop_leaf.specs.LeafModel.{LeafModel}
+use Rattle.pop_leaf.specs.FirstFault.{first_below}
+use Rattle.pop_leaf.proofs.FirstFault.{none_below}
 use Rattle.cert_layers.specs.LayerFaults.{Each, IsFirstFailing}
 use Rattle.cert_layers.specs.Search.{some_move}
 use Rattle.cert_layers.proofs.Firsts.{first_below-Some}
 use Rattle.cert_layers.proofs.NotLower.{some_move-true, some_move-false}
-use Rattle.pop_net.specs.Hushed.{hushed}
+use Rattle.pop_leaf.specs.Hushed.{hushed}
 use Rattle.pop_hushed.proofs.Kept.{listed_cases}
 use Rattle.goal_sets.specs.Stays.{leads_out, IsGuardedAt}
 use Rattle.goal_sets.proofs.Escapes.{escape_is, is_escape}

@@ -3,11 +3,11 @@ use Rattle.std.proofs.Common.{◌≡◌, ◌⊎◌, inl, inr, ℕ, ◌<◌, ◌�
 use Rattle.std.specs.Prelude.{Option, Some, None, slice_get, Contains}
 use Rattle.std.proofs.lemmas.Bool.{and_parts, and_cases, and_from, and_left, and_right, cases_Bool, cases_lt, false≢true}
 use Rattle.std.proofs.lemmas.Option.{slice_get_past}
-use Rattle.pop_net.specs.declared.leaf.Move.{Move}
-use Rattle.pop_net.specs.LeafModel.{LeafModel, IsLeaf, IsMoveBelow, silent_move}
-use Rattle.pop_net.specs.FirstFault.{first_below}
-use Rattle.pop_net.proofs.FirstFault.{none_below}
-use Rattle.pop_net.proofs.Quiet.{All-slice_get}
+use Rattle.pop_leaf.specs.declared.leaf.Move.{Move}
+use Rattle.pop_leaf.specs.LeafModel.{LeafModel, IsLeaf, IsMoveBelow, silent_move}
+use Rattle.pop_leaf.specs.FirstFault.{first_below}
+use Rattle.pop_leaf.proofs.FirstFault.{none_below}
+use Rattle.pop_leaf.proofs.Quiet.{All-slice_get}
 use Rattle.cert_base.specs.FactsAndCases.{can_meet_in}
 use Rattle.cert_layers.specs.LayerFaults.{Each, IsFirstFailing}
 use Rattle.cert_layers.specs.Search.{some_move}
@@ -15,7 +15,7 @@ use Rattle.cert_layers.specs.Waking.{wakes_states, may_wake_any, FindsFirst}
 use Rattle.cert_layers.proofs.Asleep.{asleep_pair, right_false}
 use Rattle.cert_layers.proofs.Firsts.{first_below-Some}
 use Rattle.cert_layers.proofs.NotLower.{some_move-true, some_move-false}
-use Rattle.pop_net.specs.Hushed.{is_kept, hushed}
+use Rattle.pop_leaf.specs.Hushed.{is_kept, hushed}
 use Rattle.pop_hushed.proofs.Kept.{kept_listed}
 use Rattle.pop_hushed.proofs.Moves.{hush_silent, hushed_move, kept_move, other_move}
 use Rattle.goal_sets.specs.Stays.{takes_within, WasPossible, SleepsFor, SleepIn}

@@ -2,7 +2,7 @@
 use Rattle.std.specs.Prelude.{◌≡◌, ℕ, ◌<◌, ◌≤◌, Bool, List, length, Some, slice_get, All, Result, OnOk}
 use Rattle.pop_io.specs.declared.failure.Failure.{Failure}
 use Rattle.pop_io.specs.Failures.{IfFault, OnlyMemory}
-use Rattle.pop_net.specs.LeafModel.{LeafModel}
+use Rattle.pop_leaf.specs.LeafModel.{LeafModel}
 use Rattle.cert_base.specs.declared.limits.TheConstants.{SET_LIMIT}
 use Rattle.cert_layers.specs.LayerFaults.{Each, IsFirstFailing}
 use Rattle.cert_sets.specs.declared.fault.SetFault.{SetFault}

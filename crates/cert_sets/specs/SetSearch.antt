@@ -1,6 +1,6 @@
 -- SetSearch: what the searches of a set's faults find.
 use Rattle.std.specs.Prelude.{ℕ, Bool, List, Option, Some, None, All}
-use Rattle.pop_net.specs.LeafModel.{LeafModel}
+use Rattle.pop_leaf.specs.LeafModel.{LeafModel}
 use Rattle.cert_sets.specs.declared.fault.SetFault.{SetFault}
 use Rattle.cert_sets.specs.declared.fault.SetFault.TheVariants.{Wakes}
 use Rattle.goal_sets.specs.Stays.{IsGuarded}

@@ -1,7 +1,7 @@
 -- SetTests: tests of the moves between two agents of a set.
 use Rattle.std.specs.Prelude.{ℕ, ◌<◌, Bool, false, ◌&&◌, ◌||◌, if◌then◌else◌, List, Option, Some, None, slice_get}
-use Rattle.pop_net.specs.declared.leaf.Move.{Move}
-use Rattle.pop_net.specs.LeafModel.{LeafModel, silent_move}
+use Rattle.pop_leaf.specs.declared.leaf.Move.{Move}
+use Rattle.pop_leaf.specs.LeafModel.{LeafModel, silent_move}
 use Rattle.cert_base.specs.FactsAndCases.{is_in, can_meet_in}
 use Rattle.cert_layers.specs.Search.{some_move}
 use Rattle.cert_layers.specs.Waking.{brings_state, brings_two_states, wakes_states, FindsFirst}

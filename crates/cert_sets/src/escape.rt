@@ -1,15 +1,15 @@
 //! The moves that lead out of a set.
 
 ghost use Rattle.std.specs.Prelude.{◌≡◌, ◌<◌, length, slice_get, IfOk};
-ghost use Rattle.pop_net.specs.FirstFault.{first_below};
-ghost use Rattle.pop_net.specs.LeafModel.{IsLeaf, IsMoveBelow};
+ghost use Rattle.pop_leaf.specs.FirstFault.{first_below};
+ghost use Rattle.pop_leaf.specs.LeafModel.{IsLeaf, IsMoveBelow};
 ghost use Rattle.cert_layers.specs.Search.{some_move};
 ghost use Rattle.goal_sets.specs.Stays.{takes_within, leads_out, escapes};
 ghost use Rattle.cert_sets.specs.SetTests.{is_silent_move, is_unguarded};
 
 use cert_traps::StateSet;
 use pop_io::NoMemory;
-use pop_net::{Leaf, Move, STATE_LIMIT};
+use pop_leaf::{Leaf, Move, STATE_LIMIT};
 use std::alloc::Global;
 
 /// The numbers of the moves that take two states of the set and put one outside.

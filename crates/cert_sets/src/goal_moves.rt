@@ -1,14 +1,14 @@
 //! A leaf with the moves that layers list.
 
 ghost use Rattle.std.specs.Prelude.{◌≡◌, IfOk};
-ghost use Rattle.pop_net.specs.LeafModel.{IsLeaf};
+ghost use Rattle.pop_leaf.specs.LeafModel.{IsLeaf};
 ghost use Rattle.cert_sets.specs.Layered.{layered};
 
 use crate::listed::listed_moves;
 use cert_base::Layer;
 use pop_hushed::hushed_leaf;
 use pop_io::{List, NoMemory};
-use pop_net::Leaf;
+use pop_leaf::Leaf;
 use std::alloc::Global;
 
 /// A leaf, layers of some of its moves, and the leaf that keeps these moves alone.

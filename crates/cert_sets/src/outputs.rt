@@ -1,11 +1,11 @@
 //! Whether the states of a set have one output.
 
 ghost use Rattle.std.specs.Prelude.{MatchBool};
-ghost use Rattle.pop_net.specs.LeafModel.{IsLeaf};
+ghost use Rattle.pop_leaf.specs.LeafModel.{IsLeaf};
 ghost use Rattle.cert_sets.specs.SetFaults.{HasOutput};
 ghost use Rattle.cert_sets.specs.SetSearch.{FindsOther};
 
-use pop_net::Leaf;
+use pop_leaf::Leaf;
 
 /// The first state of the set that doesn't have the value as its output.
 pub(crate) fn first_other(leaf: &Leaf, value: bool, set: &[u16]) -> Option<u16>

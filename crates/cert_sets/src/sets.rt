@@ -13,7 +13,7 @@ use crate::stay::{is_settled, left_by};
 use cert_base::Layer;
 use cert_traps::StateSet;
 use pop_io::{Failure, List};
-use pop_net::Leaf;
+use pop_leaf::Leaf;
 use std::alloc::Global;
 
 /// Whether all states of each set have the value as their output, and each set stays, with the moves of these layers.

@@ -1,8 +1,8 @@
 //! Whether all moves that are to sleep in a set do.
 
 ghost use Rattle.std.specs.Prelude.{◌≡◌, ◌<◌, ◌&&◌, not, length, slice_get};
-ghost use Rattle.pop_net.specs.FirstFault.{first_below};
-ghost use Rattle.pop_net.specs.LeafModel.{IsLeaf, IsMoveBelow, silent_move};
+ghost use Rattle.pop_leaf.specs.FirstFault.{first_below};
+ghost use Rattle.pop_leaf.specs.LeafModel.{IsLeaf, IsMoveBelow, silent_move};
 ghost use Rattle.cert_layers.specs.Waking.{FindsFirst};
 ghost use Rattle.goal_sets.specs.Stays.{takes_within};
 ghost use Rattle.cert_sets.specs.SetTests.{is_silent_move, wakes_awake, wakes_one, FindsWoken};
@@ -10,7 +10,7 @@ ghost use Rattle.cert_sets.specs.SetTests.{is_silent_move, wakes_awake, wakes_on
 use crate::escape::{is_between, is_silent_at};
 use crate::wake::{is_rest_in, may_wake, wakes};
 use cert_traps::StateSet;
-use pop_net::{Leaf, Move, STATE_LIMIT};
+use pop_leaf::{Leaf, Move, STATE_LIMIT};
 
 /// The least move between two agents of the set that isn't to sleep and wakes one that is, and the least that it wakes.
 /// The moves that are to sleep are those of `awake`, which has all others silent.

@@ -1,8 +1,8 @@
 //! Whether a set stays.
 
 ghost use Rattle.std.specs.Prelude.{◌≡◌, IfOk, MatchBool};
-ghost use Rattle.pop_net.specs.LeafModel.{IsLeaf};
-ghost use Rattle.pop_net.specs.Hushed.{hushed};
+ghost use Rattle.pop_leaf.specs.LeafModel.{IsLeaf};
+ghost use Rattle.pop_leaf.specs.Hushed.{hushed};
 ghost use Rattle.cert_base.specs.ValidLayers.{moves_of_layers};
 ghost use Rattle.goal_sets.specs.Stays.{escapes, SleepIn};
 ghost use Rattle.cert_sets.specs.SetTests.{FindsWoken};
@@ -15,7 +15,7 @@ use crate::sleep::first_woken;
 use cert_traps::StateSet;
 use pop_hushed::hushed_leaf;
 use pop_io::NoMemory;
-use pop_net::Leaf;
+use pop_leaf::Leaf;
 use std::alloc::Global;
 
 /// Whether no move outside these that takes two states of the set wakes one of them there.

@@ -1,11 +1,11 @@
 //! Which moves a move between two agents of a set wakes there.
 //!
-//! The moves that are to sleep are those of a leaf of their own, `awake`, in which all others are silent. Two states can
-//! meet there exactly if one of these moves takes them.
+//! The moves that are to sleep are those of a leaf of their own, `awake`, in which all others are silent. Two states
+//! can meet there exactly if one of these moves takes them.
 
 ghost use Rattle.std.specs.Prelude.{◌≡◌, ◌<◌, length};
 ghost use Rattle.std.specs.List.{list_any, range_with_len};
-ghost use Rattle.pop_net.specs.LeafModel.{IsLeaf, IsMoveBelow};
+ghost use Rattle.pop_leaf.specs.LeafModel.{IsLeaf, IsMoveBelow};
 ghost use Rattle.cert_base.specs.FactsAndCases.{can_meet_in};
 ghost use Rattle.cert_layers.specs.Waking.{brings_state, brings_two_states, wakes_with_state};
 ghost use Rattle.cert_layers.specs.Waking.{wakes_states, wakes_beside_state, may_wake_any};
@@ -13,7 +13,7 @@ ghost use Rattle.cert_sets.specs.SetTests.{is_other_within, is_rest_within};
 
 use cert_base::can_meet;
 use cert_traps::StateSet;
-use pop_net::{Leaf, Move, STATE_LIMIT};
+use pop_leaf::{Leaf, Move, STATE_LIMIT};
 
 /// Whether a move wakes one at all, by pairs of states alone.
 pub(crate) fn may_wake(awake: &Leaf, taken: Move) -> bool

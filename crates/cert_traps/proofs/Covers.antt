@@ -1,7 +1,7 @@
 -- Every end meets all facts of one of the cases.
 use Rattle.std.proofs.Common.{◌≡◌, ℕ, ◌+◌, ◌<◌, Bool, true, false, List, [], ◌∷◌, length, refl, ap, ◌∙◌, arith}
 use Rattle.std.specs.Prelude.{Some, None, IfSome, if◌then◌else◌}
-use Rattle.pop_net.specs.LeafModel.{LeafModel, IsLeaf}
+use Rattle.pop_leaf.specs.LeafModel.{LeafModel, IsLeaf}
 use Rattle.cert_base.specs.FactsAndCases.{can_meet_in, not_twice, cases_of_present, case_of_twin, cases_of_trap, cases_of_siphon}
 use Rattle.cert_base.specs.Ends.{IsEndFor, HaveSamePlaces, CoverDead, CoverEach}
 use Rattle.cert_base.proofs.InRange.{end_in_range}

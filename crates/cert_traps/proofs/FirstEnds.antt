@@ -4,12 +4,12 @@ use Rattle.std.specs.Prelude.{Some, pos, negsuc, ◌-ℤ◌, ◌==◌, slice_get
 use Rattle.std.proofs.lemmas.Int.{ints}
 use Rattle.std.proofs.lemmas.Bool.{eq-eqb, eqb-true, cases_lt, or_from}
 use Rattle.std.proofs.lemmas.List.Elements.{All-nil, All-cons, All-append}
-use Rattle.pop_net.specs.declared.leaf.Move.{Move}
-use Rattle.pop_net.specs.LeafModel.{LeafModel, IsLeaf, one_at}
-use Rattle.pop_net.specs.InputCrowd.{leaf_input_crowd}
-use Rattle.pop_net.specs.Reachable.{Leads}
-use Rattle.pop_net.specs.Step.{Follows, LeafMove, LeafChange, LeafStep}
-use Rattle.pop_net.proofs.Quiet.{All-slice_get}
+use Rattle.pop_leaf.specs.declared.leaf.Move.{Move}
+use Rattle.pop_leaf.specs.LeafModel.{LeafModel, IsLeaf, one_at}
+use Rattle.pop_leaf.specs.InputCrowd.{leaf_input_crowd}
+use Rattle.pop_leaf.specs.Reachable.{Leads}
+use Rattle.pop_leaf.specs.Step.{Follows, LeafMove, LeafChange, LeafStep}
+use Rattle.pop_leaf.proofs.Quiet.{All-slice_get}
 use Rattle.pop_hushed.proofs.Crowds.{none_terminal}
 use Rattle.cert_base.specs.declared.fact.Fact.{Fact}
 use Rattle.cert_base.specs.declared.fact.Fact.TheVariants.{Ge, Eq}

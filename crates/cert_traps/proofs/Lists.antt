@@ -12,9 +12,9 @@ use Rattle.cert_base.specs.Rows.{single_row, move_variable, state_variable}
 use Rattle.cert_base.specs.FactsAndCases.{indicator, places_from, states_of, is_in, can_meet_in, absent_fact, occurs_fact, alone_fact, not_twice, case_of_twin, no_moves, no_start_facts, is_possible}
 use Rattle.cert_traps.specs.Facts.{zero_if, alone_if, fact_if, case_if}
 use Rattle.cert_traps.specs.Partners.{ArePartners}
-use Rattle.pop_net.specs.declared.limits.TheConstants.{STATE_LIMIT}
-use Rattle.pop_net.specs.declared.leaf.Move.{Move}
-use Rattle.pop_net.specs.LeafModel.{LeafModel}
+use Rattle.pop_leaf.specs.declared.limits.TheConstants.{STATE_LIMIT}
+use Rattle.pop_leaf.specs.declared.leaf.Move.{Move}
+use Rattle.pop_leaf.specs.LeafModel.{LeafModel}
 use Rattle.list_laws.proofs.Lists.{take_one_more}
 use Rattle.list_laws.proofs.Ranges.{range_next}
 use Rattle.cert_base.proofs.Indicators.{places_from-one}

@@ -7,12 +7,12 @@ use Rattle.std.proofs.lemmas.Int.{ints}
 use Rattle.std.proofs.lemmas.Bool.{eq-eqb, cases_lt, not-true}
 use Rattle.std.proofs.lemmas.Bool.Decides.{eqb_tells}
 use Rattle.std.proofs.lemmas.List.Elements.{All-nil, All-cons, All-map, All-append}
-use Rattle.pop_net.specs.declared.leaf.Move.{Move}
-use Rattle.pop_net.specs.LeafModel.{LeafModel, one_at, pre, silent_move}
-use Rattle.pop_net.specs.Step.{LeafStep}
-use Rattle.pop_net.specs.Terminal.{IsTerminal}
-use Rattle.pop_net.specs.Reaction.{takes_states}
-use Rattle.pop_net.proofs.Reactions.{and_left, and_right}
+use Rattle.pop_leaf.specs.declared.leaf.Move.{Move}
+use Rattle.pop_leaf.specs.LeafModel.{LeafModel, one_at, pre, silent_move}
+use Rattle.pop_leaf.specs.Step.{LeafStep}
+use Rattle.pop_leaf.specs.Terminal.{IsTerminal}
+use Rattle.pop_leaf.specs.Reaction.{takes_states}
+use Rattle.pop_leaf.proofs.Reactions.{and_left, and_right}
 use Rattle.cert_base.specs.Rows.{state_variable}
 use Rattle.cert_base.specs.Valuation.{Valuation, MeetsFact}
 use Rattle.cert_base.specs.FactsAndCases.{states_of, can_meet_in, absent_fact, occurs_fact, alone_fact, not_twice, cases_of_present}
@@ -24,7 +24,7 @@ use Rattle.cert_base.specs.Ends.{MeetsOne}
 use Rattle.cert_base.proofs.ListTests.{list_any-contains}
 use Rattle.list_laws.proofs.Lists.{slice_get-set_same, slice_get-set_other, all_filtered}
 use Rattle.std.proofs.lemmas.Option.{same_Some}
-use Rattle.pop_net.proofs.Silent.{stays-silent, same_pair_cases}
+use Rattle.pop_leaf.proofs.Silent.{stays-silent, same_pair_cases}
 
 -- in a terminal crowd no non-silent move is enabled
 pub terminal_dead : (leaf : LeafModel) (crowd : List ℕ) → IsTerminal (LeafStep leaf) crowd → (n : ℕ) (t : Move) → slice_get leaf.moves n ≡ Some t → silent_move t ≡ false → IsEnabledIn crowd t → ⊥

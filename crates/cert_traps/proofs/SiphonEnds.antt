@@ -8,12 +8,12 @@ use Rattle.std.proofs.lemmas.List.Elements.{All-nil, All-cons, All-append, All-r
 use Rattle.std.proofs.lemmas.List.FromFn.{length-range_with_len}
 use Rattle.std.proofs.lemmas.List.Sums.{sum_by-cons}
 use Rattle.std.proofs.lemmas.Option.{slice_get_within, slice_get-get_or}
-use Rattle.pop_net.specs.declared.leaf.Move.{Move}
-use Rattle.pop_net.specs.LeafModel.{LeafModel, one_at}
-use Rattle.pop_net.specs.InputCrowd.{starts_from, leaf_input_crowd}
-use Rattle.pop_net.specs.Reachable.{Leads}
-use Rattle.pop_net.specs.Step.{Follows, LeafChange, LeafStep}
-use Rattle.pop_net.proofs.Quiet.{All-slice_get}
+use Rattle.pop_leaf.specs.declared.leaf.Move.{Move}
+use Rattle.pop_leaf.specs.LeafModel.{LeafModel, one_at}
+use Rattle.pop_leaf.specs.InputCrowd.{starts_from, leaf_input_crowd}
+use Rattle.pop_leaf.specs.Reachable.{Leads}
+use Rattle.pop_leaf.specs.Step.{Follows, LeafChange, LeafStep}
+use Rattle.pop_leaf.proofs.Quiet.{All-slice_get}
 use Rattle.cert_base.specs.declared.fact.Fact.{Fact}
 use Rattle.cert_base.specs.declared.fact.Fact.TheVariants.{Ge, Eq}
 use Rattle.cert_base.specs.Rows.{input_row}

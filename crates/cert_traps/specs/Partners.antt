@@ -1,6 +1,6 @@
 -- The states that a state can meet.
 use Rattle.std.specs.Prelude.{◌≡◌, ℕ, ◌<◌, Bool, false, List, length, slice_index_or}
-use Rattle.pop_net.specs.LeafModel.{LeafModel}
+use Rattle.pop_leaf.specs.LeafModel.{LeafModel}
 use Rattle.cert_base.specs.FactsAndCases.{can_meet_in}
 
 -- the table says of each state whether it can meet p

@@ -1,6 +1,6 @@
 -- What a move does to a set of states.
 use Rattle.std.specs.Prelude.{ℕ, Bool, not, ◌&&◌, List}
-use Rattle.pop_net.specs.declared.leaf.Move.{Move}
+use Rattle.pop_leaf.specs.declared.leaf.Move.{Move}
 use Rattle.cert_base.specs.FactsAndCases.{takes_from, puts_into, touches}
 use Rattle.cert_traps.specs.declared.role.Role.{Role}
 use Rattle.cert_traps.specs.declared.role.Role.TheVariants.{Takes, Puts, Leaves, Enters, Touches}

@@ -1,8 +1,8 @@
 //! The first move that enters a set of states.
 
 ghost use Rattle.std.specs.Prelude.{◌≡◌, ◌++◌, pos, negsuc, IfOk, OnOk};
-ghost use Rattle.pop_net.specs.declared.limits.TheConstants.{STATE_LIMIT};
-ghost use Rattle.pop_net.specs.LeafModel.{IsLeaf, IsMoveBelow};
+ghost use Rattle.pop_leaf.specs.declared.limits.TheConstants.{STATE_LIMIT};
+ghost use Rattle.pop_leaf.specs.LeafModel.{IsLeaf, IsMoveBelow};
 ghost use Rattle.cert_base.specs.declared.fact.Fact.TheVariants.{Ge};
 ghost use Rattle.cert_base.specs.Rows.{single_row, state_variable};
 ghost use Rattle.cert_base.specs.FactsAndCases.{enters, cases_of_first, before_entry, is_possible, cases_of_entry};
@@ -17,7 +17,7 @@ use crate::siphon::{none_inside, some_started};
 use crate::trap::none_there;
 use cert_base::{Fact, Row, flow_facts, only, variable_of_state};
 use pop_io::{List, NoMemory};
-use pop_net::{Leaf, Move};
+use pop_leaf::{Leaf, Move};
 use std::alloc::Global;
 
 /// Somebody started in the set; or nobody was ever in it.

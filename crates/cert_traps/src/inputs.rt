@@ -6,7 +6,7 @@ ghost use Rattle.cert_traps.specs.Facts.{fact_if};
 
 use cert_base::{Fact, Row};
 use pop_io::NoMemory;
-use pop_net::Leaf;
+use pop_leaf::Leaf;
 use std::alloc::Global;
 
 /// Adds those of the facts that speak of the inputs alone.

@@ -5,7 +5,7 @@ ghost use Rattle.cert_traps.specs.Partners.{ArePartners};
 
 use cert_base::can_meet;
 use pop_io::NoMemory;
-use pop_net::Leaf;
+use pop_leaf::Leaf;
 use std::alloc::Global;
 
 /// For each state, whether a non-silent move takes it together with this state.

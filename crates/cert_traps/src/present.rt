@@ -11,7 +11,7 @@ use crate::facts::{is_zero, push_zero};
 use crate::partners::partners;
 use cert_base::{Fact, Row, only, variable_of_state};
 use pop_io::{List, NoMemory};
-use pop_net::Leaf;
+use pop_leaf::Leaf;
 use std::alloc::Global;
 
 /// The state is absent; or it occurs, and no state does that it could meet. Of an end, the leaf is the one that has no

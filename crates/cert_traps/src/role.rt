@@ -1,12 +1,12 @@
 //! What moves do to a set of states.
 
 ghost use Rattle.std.specs.Prelude.{◌≡◌, map, IfOk};
-ghost use Rattle.pop_net.specs.LeafModel.{IsLeaf, IsMoveBelow};
+ghost use Rattle.pop_leaf.specs.LeafModel.{IsLeaf, IsMoveBelow};
 ghost use Rattle.cert_traps.specs.Roles.{passes_role};
 
 use crate::set::StateSet;
 use pop_io::NoMemory;
-use pop_net::{Leaf, Move, STATE_LIMIT};
+use pop_leaf::{Leaf, Move, STATE_LIMIT};
 use std::alloc::Global;
 
 #[derive(Clone, Copy)]

@@ -2,11 +2,11 @@
 
 ghost use Rattle.std.specs.Prelude.{◌≡◌, ◌<◌, map, IfOk};
 ghost use Rattle.std.specs.List.{range_with_len};
-ghost use Rattle.pop_net.specs.LeafModel.{IsLeaf};
+ghost use Rattle.pop_leaf.specs.LeafModel.{IsLeaf};
 ghost use Rattle.cert_base.specs.FactsAndCases.{is_in, states_of, helpers_among};
 
 use pop_io::{List, NoMemory};
-use pop_net::{Leaf, STATE_LIMIT};
+use pop_leaf::{Leaf, STATE_LIMIT};
 use std::alloc::Global;
 use std::marker::Model;
 
@@ -20,7 +20,7 @@ pub struct StateSet {
 impl Model for StateSet {
     ghost use Rattle.std.specs.Prelude.{◌≡◌, List as Items, ℕ, map};
     ghost use Rattle.std.specs.List.{range_with_len};
-    ghost use Rattle.pop_net.specs.declared.limits.TheConstants.{STATE_LIMIT};
+    ghost use Rattle.pop_leaf.specs.declared.limits.TheConstants.{STATE_LIMIT};
     ghost use Rattle.cert_base.specs.FactsAndCases.{is_in};
 
     ghost Value = { Items ℕ };

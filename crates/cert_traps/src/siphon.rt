@@ -1,7 +1,7 @@
 //! A siphon: a set of states that stays unmarked once it is.
 
 ghost use Rattle.std.specs.Prelude.{◌≡◌, ◌++◌, ◌∷◌, [], pos, ◌-ℤ◌, map, IfOk};
-ghost use Rattle.pop_net.specs.LeafModel.{IsLeaf};
+ghost use Rattle.pop_leaf.specs.LeafModel.{IsLeaf};
 ghost use Rattle.cert_base.specs.declared.fact.Fact.TheVariants.{Ge, Eq};
 ghost use Rattle.cert_base.specs.Rows.{input_row};
 ghost use Rattle.cert_base.specs.FactsAndCases.{indicator, is_in, helpers_among, no_moves};
@@ -16,7 +16,7 @@ use crate::set::StateSet;
 use crate::trap::{count_in, none_taken, some_taken};
 use cert_base::{Fact, Row, only};
 use pop_io::{List, NoMemory};
-use pop_net::Leaf;
+use pop_leaf::Leaf;
 use std::alloc::Global;
 
 /// The set is no siphon; or it was marked at the start; or it was never marked.

@@ -1,7 +1,7 @@
 //! A trap: a set of states that stays marked once it is.
 
 ghost use Rattle.std.specs.Prelude.{◌≡◌, ◌++◌, ◌∷◌, [], pos, negsuc, IfOk, OnOk};
-ghost use Rattle.pop_net.specs.LeafModel.{IsLeaf};
+ghost use Rattle.pop_leaf.specs.LeafModel.{IsLeaf};
 ghost use Rattle.cert_base.specs.declared.fact.Fact.TheVariants.{Ge, Eq};
 ghost use Rattle.cert_base.specs.FactsAndCases.{no_moves, no_start_facts, no_helper_facts};
 ghost use Rattle.cert_base.specs.FactsAndCases.{some_taken_fact, count_row, puts_into, cases_of_trap};
@@ -14,7 +14,7 @@ use crate::role::{Role, move_flags};
 use crate::set::StateSet;
 use cert_base::{Fact, Row, only, variable_of_input, variable_of_move};
 use pop_io::{List, NoMemory};
-use pop_net::Leaf;
+use pop_leaf::Leaf;
 use std::alloc::Global;
 
 /// The set is no trap; or it was never marked; or it is marked at the end.

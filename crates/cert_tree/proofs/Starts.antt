@@ -1,7 +1,7 @@
 -- The beginning of a walk over the nodes of a tree.
 use Rattle.std.proofs.Common.{◌≤◌, Bool, ℕ, List, length}
 use Rattle.pres_ast.specs.PredModel.{PredModel}
-use Rattle.pop_net.specs.LeafModel.{LeafModel, IsLeaf}
+use Rattle.pop_leaf.specs.LeafModel.{LeafModel, IsLeaf}
 use Rattle.cert_base.specs.FactsAndCases.{base_list, goal_list}
 use Rattle.cert_tree.specs.Frames.{IsFit}
 use Rattle.tree_faults.proofs.FewFacts.{base_few, goal_few}

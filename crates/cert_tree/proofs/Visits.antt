@@ -1,7 +1,7 @@
 -- One step of the walk: the next node is passed.
 use Rattle.std.proofs.Common.{◌≡◌, ◌+◌, ◌<◌, true, List, ◌∷◌, ◌++◌, ap, sym, subst, ◌∙◌, append_assoc, arith}
 use Rattle.std.specs.Prelude.{Some, None, if◌then◌else◌, Result, Ok, Err, OnOk, IfErr}
-use Rattle.pop_net.specs.LeafModel.{LeafModel}
+use Rattle.pop_leaf.specs.LeafModel.{LeafModel}
 use Rattle.cert_base.specs.declared.node.Node.{Node}
 use Rattle.pop_io.specs.declared.failure.Failure.{Failure}
 use Rattle.tree_faults.specs.declared.fault.TreeWhy.{TreeWhy}

@@ -2,7 +2,7 @@
 
 ghost use Rattle.std.specs.Prelude.{◌≡◌, ◌<◌, ◌≤◌, nat_abs, nat_lt, All, IfOk, IfErr};
 ghost use Rattle.std.specs.List.{list_all};
-ghost use Rattle.pop_net.specs.LeafModel.{LeafModel};
+ghost use Rattle.pop_leaf.specs.LeafModel.{LeafModel};
 ghost use Rattle.cert_base.specs.declared.fact.Fact.{Fact};
 ghost use Rattle.cert_base.specs.declared.node.Node.TheVariants.{Linear, Residue, Split, Present, Twin, Trap, Siphon};
 ghost use Rattle.cert_base.specs.declared.node.Node.TheVariants.{Open, First};
@@ -17,7 +17,7 @@ use cert_base::{Fact, Node, Row, SIZE_LIMIT, Term, count_variables, open_cases, 
 use cert_linear::Trail;
 use cert_traps::{first_cases, present_cases, siphon_cases, trap_cases, twin_case};
 use pop_io::{Failure, List};
-use pop_net::Leaf;
+use pop_leaf::Leaf;
 use std::alloc::Global;
 use tree_faults::TreeWhy;
 

@@ -12,7 +12,7 @@ use crate::nodes::node_cases;
 use crate::stack::Stack;
 use cert_base::{FACT_LIMIT, Fact, Node, PATH_LIMIT};
 use pop_io::{Failure, List, NoMemory};
-use pop_net::Leaf;
+use pop_leaf::Leaf;
 use std::alloc::Global;
 use tree_faults::{TreeWhy, has_room};
 

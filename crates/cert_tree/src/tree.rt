@@ -13,7 +13,7 @@ use crate::walk::Walk;
 use cert_base::{Fact, Node, base_facts, goal_facts};
 use pop_hushed::hushed_leaf;
 use pop_io::{Failure, List};
-use pop_net::Leaf;
+use pop_leaf::Leaf;
 use pres_ast::Pred;
 use std::alloc::Global;
 use tree_faults::{TreeFault, TreeWhy};

@@ -17,7 +17,7 @@ use crate::room::Room;
 use cert_base::{Fact, Node, PATH_LIMIT};
 use cert_traps::{entry_cases, facts_before_entry};
 use pop_io::{Failure, List, NoMemory};
-use pop_net::Leaf;
+use pop_leaf::Leaf;
 use std::alloc::Global;
 use std::mem;
 use tree_faults::{TreeWhy, has_room};

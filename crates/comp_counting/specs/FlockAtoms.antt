@@ -1,5 +1,5 @@
--- FlockAtoms: the atoms that say that a sum is at least c, or deny it, where each coefficient is 0, a power of two or at
--- least c.
+-- FlockAtoms: the atoms that say that a sum is at least c, or deny it, where each coefficient is 0, a power of two or
+-- at least c.
 use Rattle.std.specs.Prelude.{◌≡◌, ◌≤◌, ℕ, zero, suc, ◌+◌, ◌^◌, Bool, true, false, ◌||◌, ◌==◌, nat_le}
 use Rattle.std.specs.Prelude.{if◌then◌else◌, List, length, ℤ, pos, negsuc, ◌-ℤ◌, Option, None, find, is_some, ◌&&◌}
 use Rattle.std.specs.Prelude.{nat_abs, int_le}
@@ -7,7 +7,7 @@ use Rattle.std.specs.List.{range_with_len, list_all}
 use Rattle.std.specs.Ordering.{int_eq}
 use Rattle.pop_io.specs.declared.names.TheConstants.{VARIABLE_LIMIT}
 use Rattle.pres_ast.specs.PredModel.{IsAtomSum, PredModel}
-use Rattle.comp_powers_leaf.specs.PowersLeaf.{power_in}
+use Rattle.comp_bits.specs.Bits.{power_in}
 use Rattle.comp_counting.specs.declared.limits.TheConstants.{POWER_LIMIT}
 use Rattle.pres_ast.specs.PredTree.{LessThan}
 

@@ -3,8 +3,8 @@
 use Rattle.std.specs.Prelude.{ℕ, ◌+◌, Bool, true, false, not, ◌==◌, nat_le, if◌then◌else◌, List, [], ◌++◌, map}
 use Rattle.std.specs.Prelude.{replicate, ℤ, pos, negsuc, Option, Some, None, nat_abs, ◌∷◌}
 use Rattle.std.specs.List.{range_with_len}
-use Rattle.pop_net.specs.declared.leaf.Move.{Move}
-use Rattle.comp_powers_leaf.specs.PowersLeaf.{power_in}
+use Rattle.pop_leaf.specs.declared.leaf.Move.{Move}
+use Rattle.comp_bits.specs.Bits.{power_in}
 use Rattle.comp_counting.specs.declared.limits.TheConstants.{POWER_LIMIT}
 use Rattle.cert_base.specs.declared.layer.Layer.{Layer}
 use Rattle.cert_base.specs.declared.node.Node.{Node}

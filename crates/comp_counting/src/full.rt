@@ -96,8 +96,8 @@ fn never_node(alloc: Global, power: u16) -> Result<Node, NoMemory>
     node(alloc, multipliers)
 }
 
-/// The tree where there are too few, by the multipliers of the first full agent: it was put together, or was there at the
-/// start, or never occurred.
+/// The tree where there are too few, by the multipliers of the first full agent: it was put together, or was there at
+/// the start, or never occurred.
 pub fn full_tree(
     alloc: Global,
     enough: u64,

@@ -9,7 +9,7 @@ use Rattle.std.proofs.lemmas.Bool.{eq-eqb, ne_eqb}
 use Rattle.std.proofs.lemmas.List.{length-map, get_or-map}
 use Rattle.std.proofs.lemmas.List.Elements.{All-get_or, All-from_get_or}
 use Rattle.std.proofs.Math.Bool.{or-true}
-use Rattle.pop_net.specs.LeafModel.{LeafModel}
+use Rattle.pop_leaf.specs.LeafModel.{LeafModel}
 use Rattle.pres_ast.specs.PredModel.{PredModel}
 use Rattle.cert_base.specs.declared.fact.Fact.{Fact}
 use Rattle.cert_base.specs.Rows.{terms_from}
@@ -33,7 +33,7 @@ use Rattle.comp_flock.proofs.Starts.{IsStart, start-at}
 use Rattle.comp_counting.proofs.Counted.{enough-row}
 use Rattle.comp_flock.proofs.Offsets.{total-where, IsFilled}
 use Rattle.comp_counting.proofs.FullNodes.{IsCounting, StartsFull}
-use Rattle.comp_powers_leaf.proofs.Bits.{double}
+use Rattle.comp_bits.proofs.Bits.{double}
 use Rattle.comp_counting.proofs.OwnFacts.{not_twice-at, total-counts, total-others}
 use Rattle.comp_trees.proofs.HelperSums.{total-append}
 use Rattle.list_laws.proofs.Ranges.{all_range, range_one_more}

@@ -5,16 +5,16 @@ use Rattle.std.specs.List.{range_with_len, list_any}
 use Rattle.std.proofs.lemmas.List.{length-append}
 use Rattle.std.proofs.lemmas.List.FromFn.{length-map-range_with_len}
 use Rattle.std.proofs.lemmas.List.Elements.{All-append, All-map, Contains-append_left, Contains-append_right}
-use Rattle.pop_net.specs.declared.leaf.Move.{Move}
-use Rattle.pop_net.specs.LeafModel.{silent_move}
-use Rattle.pop_net.specs.Reaction.{takes_states}
+use Rattle.pop_leaf.specs.declared.leaf.Move.{Move}
+use Rattle.pop_leaf.specs.LeafModel.{silent_move}
+use Rattle.pop_leaf.specs.Reaction.{takes_states}
 use Rattle.cert_base.proofs.WeightedSums.{list_any-from}
 use Rattle.comp_trees.proofs.Members.{range_has}
 use Rattle.comp_flock.specs.FlockLeaf.{doubling_move, flock_moves}
 use Rattle.comp_counting.specs.FullState.{conversion_move}
 use Rattle.list_laws.proofs.Ranges.{all_range}
 use Rattle.list_laws.proofs.Lists.{has_map}
-use Rattle.pop_net.proofs.Silent.{takes-own}
+use Rattle.pop_leaf.proofs.Silent.{takes-own}
 use Rattle.comp_counting.proofs.Conversions.{all_conversions, differ_pair, conversion-loud}
 
 abbrev doublings : ℕ → List Move

@@ -8,12 +8,12 @@ use Rattle.std.proofs.lemmas.List.{length-append, append-nil}
 use Rattle.std.proofs.lemmas.List.Elements.{All-head, All-tail, All-append, All-filter, All-replicate, filter-append}
 use Rattle.std.proofs.lemmas.List.FromFn.{length-range_with_len}
 use Rattle.std.proofs.lemmas.List.Sums.{length-filter, count_by-le-length}
-use Rattle.pop_net.specs.LeafModel.{IsLeaf}
+use Rattle.pop_leaf.specs.LeafModel.{IsLeaf}
 use Rattle.cert_base.specs.WeightedSums.{total}
 use Rattle.list_laws.proofs.Ranges.{all_range, range_next}
 use Rattle.comp_trees.proofs.HelperSums.{total-append}
-use Rattle.comp_powers_leaf.specs.PowersLeaf.{has_bit}
-use Rattle.comp_powers_leaf.proofs.Bits.{more_bits, no_bits, all_bits, some_power}
+use Rattle.comp_bits.specs.Bits.{has_bit}
+use Rattle.comp_bits.proofs.Bits.{more_bits, no_bits, all_bits, some_power}
 use Rattle.comp_counting.specs.FlockAtoms.{is_counted, flock_bound, says_enough, enough_for, IsFlock, IsOffset}
 use Rattle.comp_flock.specs.FlockLeaf.{size_in, bit_states, offset_helpers, offset_helper_count, all_offset_helpers, flock_leaf_with, flock_leaf_of, offset_leaf_of}
 use Rattle.comp_flock.specs.FlockProof.{full_size}

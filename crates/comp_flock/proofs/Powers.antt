@@ -5,7 +5,7 @@ use Rattle.std.specs.List.{range_with_len}
 use Rattle.std.proofs.lemmas.Int.{ints}
 use Rattle.std.proofs.Math.Pow.{pow-lt}
 use Rattle.std.proofs.lemmas.Bool.{cases_lt, ne_eqb}
-use Rattle.comp_powers_leaf.proofs.Bits.{double, some_power, power-le}
+use Rattle.comp_bits.proofs.Bits.{double, some_power, power-le}
 use Rattle.cert_base.specs.WeightedSums.{total}
 use Rattle.cert_base.proofs.FlowSums.{times-one}
 use Rattle.comp_counting.specs.declared.limits.TheConstants.{POWER_LIMIT}

@@ -2,8 +2,8 @@
 use Rattle.std.proofs.Common.{◌≡◌, ◌≢◌, inl, inr, ℕ, ◌+◌, false, map, arith}
 use Rattle.std.specs.Prelude.{All, AllPairs}
 use Rattle.std.specs.List.{range_with_len}
-use Rattle.pop_net.specs.LeafModel.{same_pair}
-use Rattle.pop_net.specs.Reaction.{Differ}
+use Rattle.pop_leaf.specs.LeafModel.{same_pair}
+use Rattle.pop_leaf.specs.Reaction.{Differ}
 use Rattle.comp_trees.proofs.SortedLayers.{AllPairs-append}
 use Rattle.comp_trees.proofs.Single.{pairs_map, differ-by}
 use Rattle.comp_flock.specs.FlockLeaf.{doubling_move, flock_moves}

@@ -8,11 +8,11 @@ use Rattle.std.proofs.lemmas.Bool.Decides.{Decides-int_eq}
 use Rattle.std.proofs.lemmas.List.Elements.{All-map, All-from_get_or, All-get_or}
 use Rattle.std.proofs.lemmas.List.Sums.{AllPass-from_list_all}
 use Rattle.std.proofs.Math.Bool.{or-true}
-use Rattle.pop_net.proofs.Found.{find_some}
+use Rattle.pop_leaf.proofs.Found.{find_some}
 use Rattle.pres_ast.specs.declared.limits.TheConstants.{COEFFICIENT_LIMIT}
 use Rattle.pres_ast.specs.PredModel.{IsAtomSum}
-use Rattle.comp_powers_leaf.specs.PowersLeaf.{power_in}
-use Rattle.comp_powers_leaf.proofs.Bits.{power-le}
+use Rattle.comp_bits.specs.Bits.{power_in}
+use Rattle.comp_bits.proofs.Bits.{power-le}
 use Rattle.comp_counting.specs.declared.limits.TheConstants.{POWER_LIMIT}
 use Rattle.comp_counting.specs.FlockAtoms.{is_counted, is_flock_coefficient, is_size, IsFlock}
 use Rattle.comp_flock.specs.FlockLeaf.{size_in}

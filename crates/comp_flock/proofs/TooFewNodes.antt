@@ -10,8 +10,8 @@ use Rattle.std.proofs.lemmas.List.{length-map}
 use Rattle.std.proofs.lemmas.List.Elements.{All-get_or, All-from_get_or}
 use Rattle.std.proofs.lemmas.List.FromFn.{length-range_with_len, length-map-range_with_len}
 use Rattle.std.proofs.Math.Bool.{and-false}
-use Rattle.pop_net.specs.declared.leaf.Move.{Move}
-use Rattle.pop_net.specs.LeafModel.{LeafModel}
+use Rattle.pop_leaf.specs.declared.leaf.Move.{Move}
+use Rattle.pop_leaf.specs.LeafModel.{LeafModel}
 use Rattle.pres_ast.specs.PredModel.{PredModel}
 use Rattle.cert_base.specs.declared.fact.Fact.{Fact}
 use Rattle.cert_base.specs.declared.fact.Fact.TheVariants.{Eq}
@@ -34,7 +34,7 @@ use Rattle.comp_flock.proofs.Formed.{states-long}
 use Rattle.comp_trees.specs.LeaderTree.{mix_over}
 use Rattle.comp_trees.proofs.Mixes.{IsPlain, all_facts, IsLow, mix_closes}
 use Rattle.comp_trees.proofs.TakenMoves.{taken-before, taken-move, taken-past}
-use Rattle.comp_powers_leaf.proofs.Bits.{double}
+use Rattle.comp_bits.proofs.Bits.{double}
 use Rattle.comp_counting.proofs.OwnFacts.{places-none}
 use Rattle.comp_counting.proofs.Opened.{opened_row, opened_constant, too-few-constant}
 use Rattle.comp_flock.proofs.Starts.{IsStart, start-at}

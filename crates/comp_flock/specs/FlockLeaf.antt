@@ -4,10 +4,10 @@ use Rattle.std.specs.Prelude.{◌≤◌, ℕ, ◌+◌, ◌-◌, ◌^◌, Bool, t
 use Rattle.std.specs.Prelude.{filter, replicate, ℤ}
 use Rattle.std.specs.List.{range_with_len}
 use Rattle.std.specs.Fmt.{decimal}
-use Rattle.pop_net.specs.declared.limits.TheConstants.{HELPER_LIMIT}
-use Rattle.pop_net.specs.declared.leaf.Move.{Move}
-use Rattle.pop_net.specs.LeafModel.{LeafModel}
-use Rattle.comp_powers_leaf.specs.PowersLeaf.{has_bit}
+use Rattle.pop_leaf.specs.declared.limits.TheConstants.{HELPER_LIMIT}
+use Rattle.pop_leaf.specs.declared.leaf.Move.{Move}
+use Rattle.pop_leaf.specs.LeafModel.{LeafModel}
+use Rattle.comp_bits.specs.Bits.{has_bit}
 use Rattle.comp_counting.specs.FlockAtoms.{says_enough, enough_for}
 use Rattle.comp_counting.specs.FullState.{conversion_move, flock_start, flock_state_count, flock_output}
 

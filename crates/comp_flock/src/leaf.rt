@@ -10,7 +10,7 @@ use crate::naming::names;
 use crate::offset::{helpers, missing};
 use comp_counting::{enough_for, inputs, outputs, says_enough};
 use pop_io::{List, NoMemory};
-use pop_net::Leaf;
+use pop_leaf::Leaf;
 use std::alloc::Global;
 
 /// The leaf of the atom with these numbers and this power, with this many spare helpers.

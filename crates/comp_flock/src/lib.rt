@@ -8,8 +8,8 @@
 //! there are enough. Helpers hold 2^k - c, so that c more make 2^k; where c is 2^k there are none.
 //!
 //! *It ends.* A joining leaves an agent with nothing, and an agent with 2^k converts all others. *It ends right.* The
-//! first 2^k takes 2^k, with what the helpers hold, or it is an agent that is enough. If it never occurred, each smaller
-//! power is present at most once, and all of them add up to at most 2^k - 1.
+//! first 2^k takes 2^k, with what the helpers hold, or it is an agent that is enough. If it never occurred, each
+//! smaller power is present at most once, and all of them add up to at most 2^k - 1.
 #![tactic(auto)]
 
 mod law;

@@ -7,7 +7,7 @@ ghost use Rattle.comp_flock.specs.FlockLeaf.{doubling_move, flock_moves};
 ghost use Rattle.comp_counting.specs.FullState.{conversion_move};
 
 use pop_io::NoMemory;
-use pop_net::Move;
+use pop_leaf::Move;
 use std::alloc::Global;
 
 /// Two agents with 2^i make one with 2^(i+1).

@@ -2,12 +2,12 @@
 
 ghost use Rattle.std.specs.Prelude.{◌≡◌, ◌≤◌, ◌+◌, ◌^◌, map, IfOk};
 ghost use Rattle.std.specs.List.{range_with_len};
-ghost use Rattle.comp_powers_leaf.specs.declared.limits.TheConstants.{RANGE_LIMIT};
+ghost use Rattle.comp_bits.specs.declared.limits.TheConstants.{RANGE_LIMIT};
 ghost use Rattle.comp_counting.specs.declared.limits.TheConstants.{POWER_LIMIT};
 ghost use Rattle.comp_counting.specs.FullState.{flock_state_count};
 ghost use Rattle.comp_flock.specs.FlockLeaf.{size_in, flock_state_name};
 
-use comp_powers_leaf::two_to;
+use comp_bits::two_to;
 use pop_io::{List, NoMemory, Text};
 use std::alloc::Global;
 

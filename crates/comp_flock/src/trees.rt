@@ -9,10 +9,10 @@ ghost use Rattle.comp_flock.specs.FlockProof.{full_size as full_size_of};
 
 use crate::multipliers::{few, first};
 use cert_base::Node;
+use comp_bits::two_to;
 use comp_counting::{
     POWER_LIMIT as GREATEST_POWER, converted_node, full_tree, node, opened_number,
 };
-use comp_powers_leaf::two_to;
 use pop_io::{List, NoMemory};
 use std::alloc::Global;
 

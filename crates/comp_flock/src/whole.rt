@@ -13,7 +13,7 @@ use crate::trees::tree;
 use cert_base::{Layer, LeafProof};
 use comp_counting::{bound_of_power, counting_layers, enough_for, offset_pred, says_enough};
 use pop_io::{List, NoMemory};
-use pop_net::Leaf;
+use pop_leaf::Leaf;
 use std::alloc::Global;
 
 /// All moves in one layer.

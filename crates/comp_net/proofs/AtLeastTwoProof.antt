@@ -6,7 +6,7 @@ use Rattle.std.proofs.lemmas.Fmt.{decimal_digit}
 use Rattle.std.proofs.lemmas.List.Elements.{All-nil, All-cons}
 use Rattle.std.proofs.lemmas.List.Kept.{AllPairs-cons}
 use Rattle.pop_io.specs.Names.{AreNames, variable_name}
-use Rattle.pop_net.specs.NetModel.{NetModel}
+use Rattle.pop_leaf.specs.NetModel.{NetModel}
 use Rattle.pop_checker.specs.Computes.{Computes}
 use Rattle.comp_counting.specs.FlockAtoms.{IsFlock, flock_pred_of}
 use Rattle.comp_flock.specs.FlockLeaf.{flock_leaf_of}

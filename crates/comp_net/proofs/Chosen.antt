@@ -4,8 +4,8 @@ use Rattle.std.specs.Prelude.{ℤ, Option, Some, None}
 use Rattle.std.specs.List.{range_with_len}
 use Rattle.std.proofs.lemmas.Option.{slice_get_within, get_or_from_slice_get}
 use Rattle.std.proofs.lemmas.List.FromFn.{length-range_with_len, get_or-range_with_len}
-use Rattle.pop_net.proofs.Found.{find_some}
-use Rattle.pop_net.specs.declared.limits.TheConstants.{STATE_LIMIT, NARROW_STATE_LIMIT, HELPER_LIMIT}
+use Rattle.pop_leaf.proofs.Found.{find_some}
+use Rattle.pop_leaf.specs.declared.limits.TheConstants.{STATE_LIMIT, NARROW_STATE_LIMIT, HELPER_LIMIT}
 use Rattle.pres_ast.specs.PredModel.{IsAtomSum}
 use Rattle.pres_ast.specs.PredTree.{PredTree, LessThan, Congruent, Negation, Conjunction, Disjunction}
 use Rattle.comp_threshold.specs.declared.limits.TheConstants.{WIDTH_LIMIT}
@@ -19,7 +19,7 @@ use Rattle.comp_flock.proofs.Offsets.{helpers-most}
 use Rattle.comp_flock.proofs.PowerFound.{IsPower, power_is, IsOffsetPower, offset_power_is}
 use Rattle.comp_prefix.specs.PrefixLeaf.{IsPrefix, prefix_top}
 use Rattle.comp_prefix.proofs.TopFound.{IsTop, top-is, top-low, top-prefix}
-use Rattle.comp_powers_leaf.specs.declared.limits.TheConstants.{RANGE_LIMIT}
+use Rattle.comp_bits.specs.declared.limits.TheConstants.{RANGE_LIMIT}
 use Rattle.comp_powers_leaf.specs.PowersLeaf.{roles, IsPowers}
 use Rattle.comp_powers_leaf.specs.PowersRange.{suffices, powers_range}
 use Rattle.comp_powers_leaf.proofs.RangeFound.{range-suffices}

@@ -4,12 +4,12 @@ use Rattle.std.proofs.Math.Pow.{pow-lt}
 use Rattle.std.specs.Prelude.{ℤ, pos, negsuc, nat_abs, nat_le}
 use Rattle.std.specs.List.{range_with_len, list_all}
 use Rattle.std.proofs.lemmas.Bool.{and_parts, leb-true, cases_lt}
-use Rattle.pop_net.proofs.Found.{find_some}
+use Rattle.pop_leaf.proofs.Found.{find_some}
 use Rattle.comp_counting.specs.FlockAtoms.{enough_for}
 use Rattle.comp_flock.proofs.PowerFound.{offset_least}
-use Rattle.comp_powers_leaf.specs.declared.limits.TheConstants.{RANGE_LIMIT}
+use Rattle.comp_bits.specs.declared.limits.TheConstants.{RANGE_LIMIT}
 use Rattle.comp_powers_leaf.specs.PowersRange.{bound_size, suffices}
-use Rattle.comp_powers_leaf.proofs.Bits.{some_power}
+use Rattle.comp_bits.proofs.Bits.{some_power}
 use Rattle.comp_powers_leaf.proofs.Building.{states_counted}
 use Rattle.comp_prefix.proofs.Chain.{worths-chain}
 use Rattle.comp_prefix.proofs.TopFound.{top-is}

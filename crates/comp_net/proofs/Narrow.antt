@@ -4,10 +4,10 @@ use Rattle.std.specs.Prelude.{None, All, nat_lt, if◌then◌else◌, position, 
 use Rattle.std.proofs.lemmas.Bool.{ltb-true, ltb-false, le-ltb, not-true}
 use Rattle.std.proofs.lemmas.List.{length-map, get_or-map}
 use Rattle.std.proofs.Math.Bool.{not-not}
-use Rattle.pop_net.specs.declared.limits.TheConstants.{LEAF_LIMIT, WIDE_LEAF_LIMIT}
+use Rattle.pop_leaf.specs.declared.limits.TheConstants.{LEAF_LIMIT, WIDE_LEAF_LIMIT}
 use Rattle.pop_io.specs.declared.names.TheConstants.{VARIABLE_LIMIT}
-use Rattle.pop_net.proofs.FirstFault.{NoneIff, first_of-nil, first_of-cons, none_unless, none_map, none_position}
-use Rattle.pop_net.proofs.LeafFaults.{Decides-le}
+use Rattle.pop_leaf.proofs.FirstFault.{NoneIff, first_of-nil, first_of-cons, none_unless, none_map, none_position}
+use Rattle.pop_leaf.proofs.LeafFaults.{Decides-le}
 use Rattle.pres_ast.specs.PredTree.{PredTree, LessThan, Congruent, Negation, Conjunction, Disjunction}
 use Rattle.pres_ast.specs.PredModel.{AreCoefs, HasAtoms, IsAtomSum}
 use Rattle.comp_net.specs.declared.fault.CompileFault.TheVariants as fault

@@ -4,8 +4,8 @@ use Rattle.std.specs.Prelude.{pos, Some, All, option_and_then}
 use Rattle.std.proofs.lemmas.List.{length-append, get_or-append-add}
 use Rattle.std.proofs.Math.ListN.{get_or-append}
 use Rattle.std.proofs.lemmas.List.Elements.{All-nil, All-cons, All-append}
-use Rattle.pop_net.specs.declared.net.Item.TheVariants.{Leaf, Not, And, Or}
-use Rattle.pop_net.specs.NetModel.{Operators, after_items, only_one, combined, depth_operators, NamesBelow}
+use Rattle.pop_leaf.specs.declared.item.Item.TheVariants.{Leaf, Not, And, Or}
+use Rattle.pop_leaf.specs.NetModel.{Operators, after_items, only_one, combined, depth_operators, NamesBelow}
 use Rattle.pres_ast.specs.PredTree.{PredTree, LessThan, Congruent, Negation, Conjunction, Disjunction}
 use Rattle.pres_ast.specs.PredModel.{weight_of}
 use Rattle.cert_base.specs.ValidProof.{trees}

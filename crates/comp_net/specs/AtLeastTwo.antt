@@ -2,10 +2,10 @@
 -- in `0`, and an agent in `2` converts all others. In the end all answer whether there are two of x.
 use Rattle.std.specs.Prelude.{◌≡◌, [], ◌∷◌, true, false, negsuc}
 use Rattle.pres_ast.specs.PredTree.{PredTree, LessThan}
-use Rattle.pop_net.specs.declared.net.Item.TheVariants.{Leaf}
+use Rattle.pop_leaf.specs.declared.item.Item.TheVariants.{Leaf}
 use Rattle.pop_net.specs.ExampleNets.{move}
-use Rattle.pop_net.specs.LeafModel.{LeafModel}
-use Rattle.pop_net.specs.NetModel.{NetModel}
+use Rattle.pop_leaf.specs.LeafModel.{LeafModel}
+use Rattle.pop_leaf.specs.NetModel.{NetModel}
 use Rattle.pop_checker.specs.Computes.{Computes}
 use Rattle.comp_net.specs.declared.choice.LeafChoice.TheVariants.{Flocks}
 use Rattle.comp_net.specs.BuiltNet.{net_with}

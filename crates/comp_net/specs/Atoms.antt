@@ -2,9 +2,9 @@
 use Rattle.std.specs.Prelude.{◌≡◌, ℕ, ◌+◌, max, ◌≤◌, Bool, true, false, ◌&&◌, if◌then◌else◌, is_some, List, [], ◌∷◌}
 use Rattle.std.specs.Prelude.{◌++◌, ℤ, nat_abs, length, Option, Some, None}
 use Rattle.pop_io.specs.declared.names.TheConstants.{VARIABLE_LIMIT}
-use Rattle.pop_net.specs.declared.net.Item.{Item}
-use Rattle.pop_net.specs.declared.net.Item.TheVariants.{Leaf, Not, And, Or}
-use Rattle.pop_net.specs.declared.limits.TheConstants.{STATE_LIMIT, NARROW_STATE_LIMIT}
+use Rattle.pop_leaf.specs.declared.item.Item.{Item}
+use Rattle.pop_leaf.specs.declared.item.Item.TheVariants.{Leaf, Not, And, Or}
+use Rattle.pop_leaf.specs.declared.limits.TheConstants.{STATE_LIMIT, NARROW_STATE_LIMIT}
 use Rattle.pres_ast.specs.declared.limits.TheConstants.{BOUND_LIMIT}
 use Rattle.pres_ast.specs.PredModel.{IsAtomSum, IsResidue}
 use Rattle.pres_ast.specs.PredTree.{PredTree, LessThan, Congruent, Negation, Conjunction, Disjunction}
@@ -123,7 +123,8 @@ most_helpers choice (Disjunction p q) = max (most_helpers choice p) (most_helper
 
 -- ---- sizes
 
--- the size of an atom's leaf: the width of a threshold, or in a succinct net how many states there are; others have none
+-- the size of an atom's leaf: the width of a threshold, or in a succinct net how many states there are; others have
+-- none
 abbrev pub less_size : List ℤ → ℤ → LessLeaf → ℕ
 less_size coefs bound Threshold = threshold_width coefs bound
 less_size coefs bound (Flock power) = 0

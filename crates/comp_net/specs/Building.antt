@@ -1,7 +1,7 @@
 -- Building: what a net and its proof are made of, atom by atom.
 use Rattle.std.specs.Prelude.{◌≡◌, ℕ, List, [], ◌∷◌, ◌++◌, length, map}
-use Rattle.pop_net.specs.LeafModel.{LeafModel}
-use Rattle.pop_net.specs.declared.net.Item.TheVariants.{Leaf}
+use Rattle.pop_leaf.specs.LeafModel.{LeafModel}
+use Rattle.pop_leaf.specs.declared.item.Item.TheVariants.{Leaf}
 use Rattle.pres_ast.specs.PredTree.{PredTree}
 use Rattle.cert_base.specs.declared.proof.LeafProof.{LeafProof}
 use Rattle.cert_base.specs.ProofBound.{layers_bound}

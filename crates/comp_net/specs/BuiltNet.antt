@@ -1,7 +1,7 @@
 -- BuiltNet: the built net of a predicate: one leaf for each atom, from left to right, and the tree in postfix.
 use Rattle.std.specs.Prelude.{ℕ, ◌-◌, List, [], ℤ, pos, map}
-use Rattle.pop_net.specs.LeafModel.{LeafModel}
-use Rattle.pop_net.specs.NetModel.{NetModel}
+use Rattle.pop_leaf.specs.LeafModel.{LeafModel}
+use Rattle.pop_leaf.specs.NetModel.{NetModel}
 use Rattle.pres_ast.specs.PredTree.{PredTree, LessThan, Congruent, Negation, Conjunction, Disjunction}
 use Rattle.comp_threshold.specs.ThresholdLeaf.{threshold_leaf_of}
 use Rattle.comp_remainder.specs.RemainderLeaf.{remainder_leaf_of}

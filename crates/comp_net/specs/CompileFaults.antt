@@ -3,8 +3,8 @@ use Rattle.std.specs.Prelude.{◌≡◌, ℕ, Bool, nat_lt, nat_le, if◌then◌
 use Rattle.std.specs.Prelude.{None, position, slice_index}
 use Rattle.std.specs.Option.{option_map}
 use Rattle.pres_ast.specs.PredTree.{PredTree}
-use Rattle.pop_net.specs.declared.limits.TheConstants.{LEAF_LIMIT, WIDE_LEAF_LIMIT}
-use Rattle.pop_net.specs.FirstFault.{unless, first_of}
+use Rattle.pop_leaf.specs.declared.limits.TheConstants.{LEAF_LIMIT, WIDE_LEAF_LIMIT}
+use Rattle.pop_leaf.specs.FirstFault.{unless, first_of}
 use Rattle.comp_net.specs.Atoms.{atoms, atom_size, size_limit, narrow_limit, has_no_leaf, leaves_for}
 use Rattle.comp_net.specs.declared.choice.LeafChoice.{LeafChoice}
 use Rattle.comp_net.specs.declared.choice.NetLeaves.{NetLeaves}

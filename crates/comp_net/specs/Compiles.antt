@@ -3,8 +3,8 @@ use Rattle.std.specs.Prelude.{◌≡◌, ℕ, List, length, All, None, Result, I
 use Rattle.pop_io.specs.declared.failure.Failure.{Failure}
 use Rattle.pop_io.specs.Failures.{IfFault}
 use Rattle.pres_ast.specs.PredModel.{PredModel, IsPred}
-use Rattle.pop_net.specs.NetModel.{NetModel, IsNet}
-use Rattle.pop_net.specs.Reaction.{IsSingle}
+use Rattle.pop_leaf.specs.NetModel.{NetModel, IsNet}
+use Rattle.pop_leaf.specs.Reaction.{IsSingle}
 use Rattle.cert_base.specs.declared.proof.Proof.{Proof}
 use Rattle.cert_base.specs.ProofBound.{proof_bound}
 use Rattle.cert_base.specs.ProofLimits.{IsProofWithin}

@@ -3,8 +3,8 @@
 ghost use Rattle.std.specs.Prelude.{◌≡◌, None, All, length, IfOk};
 ghost use Rattle.pop_io.specs.Names.{AreNames, variable_name};
 ghost use Rattle.pop_io.specs.Failures.{IfFault};
-ghost use Rattle.pop_net.specs.NetModel.{IsNet};
-ghost use Rattle.pop_net.specs.Reaction.{IsSingle};
+ghost use Rattle.pop_leaf.specs.NetModel.{IsNet};
+ghost use Rattle.pop_leaf.specs.Reaction.{IsSingle};
 ghost use Rattle.pres_ast.specs.PredModel.{IsPred};
 ghost use Rattle.cert_base.specs.ProofBound.{proof_bound};
 ghost use Rattle.cert_base.specs.ProofLimits.{IsProofWithin};

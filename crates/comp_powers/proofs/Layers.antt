@@ -7,8 +7,8 @@ use Rattle.std.proofs.lemmas.Bool.{eq-eqb, le-leb, cases_eq}
 use Rattle.std.proofs.lemmas.Bool.Decides.{eqb_tells}
 use Rattle.std.proofs.lemmas.List.{length-map, get_or-map}
 use Rattle.std.proofs.lemmas.List.Elements.{All-nil, All-cons, All-contains}
-use Rattle.pop_net.specs.declared.leaf.Move.{Move}
-use Rattle.pop_net.specs.LeafModel.{LeafModel, IsMoveBelow, silent_move, one_at}
+use Rattle.pop_leaf.specs.declared.leaf.Move.{Move}
+use Rattle.pop_leaf.specs.LeafModel.{LeafModel, IsMoveBelow, silent_move, one_at}
 use Rattle.cert_base.specs.ValidLayers.{weight_at, IsLower, IsEnabledBefore, ValidLayers}
 use Rattle.comp_trees.proofs.SortedLayers.{AreKinds, sorted_layers-valid}
 use Rattle.comp_powers_leaf.specs.declared.role.Role.{Role}

@@ -10,8 +10,8 @@ use Rattle.std.proofs.lemmas.Bool.Decides.{eqb_tells}
 use Rattle.std.proofs.lemmas.List.{length-map, get_or-map}
 use Rattle.std.proofs.lemmas.List.Elements.{All-get_or}
 use Rattle.std.proofs.lemmas.List.FromFn.{get_or-map-range_with_len, length-map-range_with_len}
-use Rattle.pop_net.specs.declared.leaf.Move.{Move}
-use Rattle.pop_net.specs.LeafModel.{LeafModel, IsLeaf}
+use Rattle.pop_leaf.specs.declared.leaf.Move.{Move}
+use Rattle.pop_leaf.specs.LeafModel.{LeafModel, IsLeaf}
 use Rattle.pres_ast.specs.PredModel.{PredModel}
 use Rattle.cert_base.specs.declared.fact.Fact.{Fact}
 use Rattle.cert_base.specs.Rows.{terms_from}
@@ -25,7 +25,7 @@ use Rattle.comp_trees.proofs.LeaderEnds.{absent-at, shifted, rules_out, is_wrong
 use Rattle.comp_powers_leaf.specs.declared.role.Role.{Role}
 use Rattle.comp_powers_leaf.specs.declared.role.Role.TheVariants.{Low, High, Nothing, Piece, Plus, Debtor, Token}
 use Rattle.comp_powers_leaf.specs.PowersLeaf.{coefficient_of, worth, says, roles, role_at, place, start_of, all_helper_roles, powers_leaf_of, IsPowers, HasRoom}
-use Rattle.comp_powers_leaf.proofs.Bits.{double}
+use Rattle.comp_bits.proofs.Bits.{double}
 use Rattle.comp_powers_leaf.proofs.Places.{there, role-valid, place-role}
 use Rattle.comp_powers_leaf.specs.PowersLeaf.{IsRole}
 use Rattle.comp_powers_leaf.proofs.Moves.{ByRoles, fixed-first}

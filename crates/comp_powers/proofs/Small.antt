@@ -8,7 +8,7 @@ use Rattle.list_laws.proofs.Numbers.{size-neg}
 use Rattle.comp_powers_leaf.specs.declared.role.Role.{Role}
 use Rattle.comp_powers_leaf.specs.declared.role.Role.TheVariants.{Low, High, Nothing, Piece, Plus, Debtor, Token}
 use Rattle.comp_powers_leaf.specs.PowersLeaf.{coefficient_of, owed, worth, IsRole, HasRange}
-use Rattle.comp_powers_leaf.proofs.Bits.{power-le, some_power}
+use Rattle.comp_bits.proofs.Bits.{power-le, some_power}
 use Rattle.comp_powers_leaf.proofs.Moves.{chain-most}
 use Rattle.comp_powers.specs.PowersProof.{credit}
 

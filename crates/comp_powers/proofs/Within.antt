@@ -6,7 +6,7 @@ use Rattle.std.proofs.lemmas.Option.{slice_get_within}
 use Rattle.std.proofs.lemmas.List.{length-append, length-replicate, length-map}
 use Rattle.std.proofs.lemmas.List.FromFn.{length-map-range_with_len}
 use Rattle.std.proofs.lemmas.List.Elements.{All-nil, All-cons, All-append, All-map, All-filter, All-weaker}
-use Rattle.pop_net.specs.LeafModel.{LeafModel}
+use Rattle.pop_leaf.specs.LeafModel.{LeafModel}
 use Rattle.cert_base.specs.declared.node.Node.TheVariants.{Present, Twin, Trap, Open}
 use Rattle.cert_base.specs.Rows.{zeros}
 use Rattle.cert_base.specs.FactsAndCases.{indicator, states_of, can_meet_in, puts_into, no_moves, no_start_facts, differs}

@@ -1,11 +1,11 @@
 -- PowersLaw: the built leaf of powers is well formed, no two of its moves take the same states, and its proof is valid.
 use Rattle.std.specs.Prelude.{◌≡◌, ◌≤◌, ℕ, List, ℤ, AllPairs, length, Some}
-use Rattle.pop_net.specs.LeafModel.{IsLeaf}
-use Rattle.pop_net.specs.Reaction.{Differ}
+use Rattle.pop_leaf.specs.LeafModel.{IsLeaf}
+use Rattle.pop_leaf.specs.Reaction.{Differ}
 use Rattle.cert_base.specs.ValidProof.{ValidLeafProof}
 use Rattle.cert_base.specs.ProofLimits.{IsLeafProofWithin}
 use Rattle.pres_ast.specs.PredModel.{IsAtomSum}
-use Rattle.pop_net.specs.declared.limits.TheConstants.{STATE_LIMIT}
+use Rattle.pop_leaf.specs.declared.limits.TheConstants.{STATE_LIMIT}
 use Rattle.comp_powers_leaf.specs.PowersLeaf.{roles, powers_leaf_of, IsPowers, HasRoom}
 use Rattle.comp_powers_leaf.specs.PowersRange.{powers_range}
 use Rattle.comp_powers.specs.PowersProof.{powers_part}

@@ -3,8 +3,8 @@ use Rattle.std.specs.Prelude.{◌≡◌, ◌≤◌, ℕ, ◌+◌, ◌*◌, ◌^�
 use Rattle.std.specs.Prelude.{◌∷◌, ◌++◌, map, length, ℤ, pos}
 use Rattle.std.specs.Prelude.{negsuc, neg_ℤ, nat_lt, slice_index_or}
 use Rattle.std.specs.List.{range_with_len, list_any}
-use Rattle.pop_net.specs.declared.limits.TheConstants.{STATE_LIMIT}
-use Rattle.pop_net.specs.LeafModel.{LeafModel}
+use Rattle.pop_leaf.specs.declared.limits.TheConstants.{STATE_LIMIT}
+use Rattle.pop_leaf.specs.LeafModel.{LeafModel}
 use Rattle.pres_ast.specs.PredTree.{LessThan}
 use Rattle.pres_ast.specs.PredModel.{PredModel}
 use Rattle.cert_base.specs.declared.layer.Layer.{Layer}

@@ -1,8 +1,8 @@
-//! A leaf that computes `a(1)*x(1) + .. < c` with some three states for each bit, and its proof, for all coefficients and
-//! bounds.
+//! A leaf that computes `a(1)*x(1) + .. < c` with some three states for each bit, and its proof, for all coefficients
+//! and bounds.
 //! It stands on `comp_powers_leaf` and `comp_trees`.
-//! The layer above uses: `powers_range` finds the least range that suffices, and `powers_states` says how many states the
-//! leaf has for it; `powers` gives exactly the built leaf, and a proof that is valid for it and within the limits.
+//! The layer above uses: `powers_range` finds the least range that suffices, and `powers_states` says how many states
+//! the leaf has for it; `powers` gives exactly the built leaf, and a proof that is valid for it and within the limits.
 #![tactic(auto)]
 
 mod law;
@@ -13,6 +13,7 @@ mod values;
 mod weights;
 mod whole;
 
-pub use comp_powers_leaf::{RANGE_LIMIT, powers_range, powers_states};
+pub use comp_bits::RANGE_LIMIT;
+pub use comp_powers_leaf::{powers_range, powers_states};
 pub use law::powers_are_right;
 pub use whole::powers;

@@ -5,7 +5,7 @@ ghost use Rattle.std.specs.Prelude.{slice_index_or, IfOk, OnOk};
 ghost use Rattle.cert_base.specs.Rows.{zeros};
 ghost use Rattle.cert_base.specs.FactsAndCases.{puts_into, is_in, places_from, no_moves, no_start_facts};
 ghost use Rattle.pop_io.specs.declared.names.TheConstants.{VARIABLE_LIMIT};
-ghost use Rattle.pop_net.specs.declared.limits.TheConstants.{STATE_LIMIT, MOVE_LIMIT};
+ghost use Rattle.pop_leaf.specs.declared.limits.TheConstants.{STATE_LIMIT, MOVE_LIMIT};
 ghost use Rattle.comp_trees.specs.LeaderTree.{weighed_node, company_of};
 ghost use Rattle.comp_powers.specs.PowersProof.{hubs, alone_zero, no_leak_mix, helped_mix, no_hub_mix};
 ghost use Rattle.comp_powers.specs.PowersProof.{high_mix, few_mix, low_mix};
@@ -16,7 +16,7 @@ use crate::weights::push_if;
 use cert_base::{Node, can_meet};
 use comp_trees::{company, mixed, picked};
 use pop_io::NoMemory;
-use pop_net::{Leaf, Move};
+use pop_leaf::{Leaf, Move};
 use std::alloc::Global;
 
 /// No move leaves the hubs.

@@ -3,7 +3,7 @@
 ghost use Rattle.comp_powers.specs.PowersProof.{AreStates};
 
 use comp_powers_leaf::Role;
-use pop_net::Leaf;
+use pop_leaf::Leaf;
 
 /// A leaf for these coefficients and the range 2^k, and the role of each of its states.
 #[derive(Clone, Copy)]

@@ -4,9 +4,9 @@ ghost use Rattle.std.specs.Prelude.{◌≡◌, ◌≤◌, ◌+◌, ◌++◌, ◌
 ghost use Rattle.cert_base.specs.declared.node.Node.TheVariants.{Open as open_node, Trap as trap_node};
 ghost use Rattle.cert_base.specs.declared.node.Node.TheVariants.{Twin as twin_node};
 ghost use Rattle.cert_base.specs.declared.node.Node.TheVariants.{Present as present_node};
-ghost use Rattle.pop_net.specs.declared.limits.TheConstants.{STATE_LIMIT};
+ghost use Rattle.pop_leaf.specs.declared.limits.TheConstants.{STATE_LIMIT};
 ghost use Rattle.comp_trees.specs.LeaderTree.{weighed_node};
-ghost use Rattle.comp_powers_leaf.specs.declared.limits.TheConstants.{RANGE_LIMIT};
+ghost use Rattle.comp_bits.specs.declared.limits.TheConstants.{RANGE_LIMIT};
 ghost use Rattle.comp_powers.specs.PowersProof.{hubs, twin_places, powers_tree, no_leak_mix, helped_mix};
 ghost use Rattle.comp_powers.specs.PowersProof.{no_hub_mix};
 
@@ -14,7 +14,7 @@ use crate::multipliers::{few, helped, high, low, no_hub, no_leak};
 use crate::roled::RoledLeaf;
 use cert_base::Node;
 use pop_io::{List, NoMemory};
-use pop_net::Leaf;
+use pop_leaf::Leaf;
 use std::alloc::Global;
 
 /// The trap of both hubs.

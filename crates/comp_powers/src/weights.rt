@@ -2,7 +2,7 @@
 
 ghost use Rattle.std.specs.Prelude.{◌≡◌, ◌≤◌, ◌<◌, ◌++◌, ◌∷◌, [], if◌then◌else◌, length, map, pos, IfOk, OnOk};
 ghost use Rattle.comp_trees.specs.SortedLayers.{sorted_layer};
-ghost use Rattle.comp_powers_leaf.specs.declared.limits.TheConstants.{RANGE_LIMIT};
+ghost use Rattle.comp_bits.specs.declared.limits.TheConstants.{RANGE_LIMIT};
 ghost use Rattle.comp_powers.specs.PowersProof.{powers_layers_of};
 ghost use Rattle.comp_powers_leaf.specs.PowersLeaf.{powers_moves};
 ghost use Rattle.comp_powers_leaf.specs.PowersLayers.{low_kind, nothing_kind, kind_by, kind_at, sum_weight};
@@ -13,7 +13,7 @@ use crate::roled::RoledLeaf;
 use cert_base::Layer;
 use comp_powers_leaf::Role;
 use pop_io::{List, NoMemory};
-use pop_net::{Leaf, Move};
+use pop_leaf::{Leaf, Move};
 use std::alloc::Global;
 
 fn kind_of_low(q: Role) -> u32

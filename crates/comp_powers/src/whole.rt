@@ -12,7 +12,7 @@ use crate::weights::powers_layers;
 use cert_base::LeafProof;
 use comp_powers_leaf::{Role, powers_leaf, roles};
 use pop_io::{List, NoMemory};
-use pop_net::Leaf;
+use pop_leaf::Leaf;
 use pres_ast::{Pred, Tree};
 use std::alloc::Global;
 
@@ -60,8 +60,8 @@ fn leaf_proof(
     })
 }
 
-/// The built leaf of `Less` with these coefficients and this bound, for the range 2^k, with this many spare helpers, and
-/// a valid proof for it. No two moves of the leaf take the same states.
+/// The built leaf of `Less` with these coefficients and this bound, for the range 2^k, with this many spare helpers,
+/// and a valid proof for it. No two moves of the leaf take the same states.
 pub fn powers(
     alloc: Global,
     coefs: &[i64],

@@ -8,11 +8,11 @@ use Rattle.std.proofs.lemmas.Option.{slice_get_within, get_or_from_slice_get}
 use Rattle.std.proofs.lemmas.List.Sums.{AllPass-from_list_all}
 use Rattle.std.proofs.lemmas.List.FromFn.{length-range_with_len, get_or-range_with_len}
 use Rattle.pop_io.specs.declared.names.TheConstants.{VARIABLE_LIMIT}
-use Rattle.pop_net.specs.declared.limits.TheConstants.{STATE_LIMIT}
-use Rattle.pop_net.proofs.Found.{find_some}
+use Rattle.pop_leaf.specs.declared.limits.TheConstants.{STATE_LIMIT}
+use Rattle.pop_leaf.proofs.Found.{find_some}
 use Rattle.comp_powers_leaf.specs.PowersLeaf.{coefficient_of, roles, IsPowers}
 use Rattle.comp_powers_leaf.specs.PowersRange.{bound_size, suffices, powers_range}
-use Rattle.comp_powers_leaf.proofs.Bits.{some_power}
+use Rattle.comp_bits.proofs.Bits.{some_power}
 
 bounded : (a : ℤ) (m : ℕ) → 0 < m → bound_size a ≤ m → (a <ℤ pos (m + 1)) × (neg_ℤ (pos m) <ℤ a)
 bounded (pos n) m s l = ((let h : pos n <ℤ pos (m + 1) = omega (arith, ints, l) in h), (let h : neg_ℤ (pos m) <ℤ pos n = omega (arith, ints, s) in h))

@@ -4,8 +4,8 @@ use Rattle.std.specs.Prelude.{ℤ, Option, Some, None, All, AllPairs, flat_map, 
 use Rattle.std.specs.List.{range_with_len}
 use Rattle.std.proofs.lemmas.Bool.{cases_eq}
 use Rattle.std.proofs.lemmas.List.Elements.{All-nil, All-cons}
-use Rattle.pop_net.specs.declared.leaf.Move.{Move}
-use Rattle.pop_net.specs.Reaction.{Differ}
+use Rattle.pop_leaf.specs.declared.leaf.Move.{Move}
+use Rattle.pop_leaf.specs.Reaction.{Differ}
 use Rattle.list_laws.proofs.Ranges.{all_range}
 use Rattle.comp_trees.proofs.Members.{all_flat}
 use Rattle.comp_trees.proofs.Single.{pairs_flat, differ-by}

@@ -7,14 +7,15 @@ use Rattle.std.proofs.lemmas.Bool.{eqb-true, eq-eqb, cases_eq}
 use Rattle.std.proofs.lemmas.Option.{slice_get_within, get_or_from_slice_get}
 use Rattle.std.proofs.lemmas.List.FromFn.{length-range_with_len, get_or-range_with_len}
 use Rattle.std.proofs.lemmas.List.Elements.{All-head, All-tail}
-use Rattle.pop_net.proofs.Found.{find_some}
+use Rattle.pop_leaf.proofs.Found.{find_some}
 use Rattle.cert_base.specs.WeightedSums.{total}
 use Rattle.comp_trees.proofs.HelperSums.{total-append}
 use Rattle.list_laws.proofs.Ranges.{range_one_more}
 use Rattle.comp_powers_leaf.specs.declared.role.Role.{Role}
 use Rattle.comp_powers_leaf.specs.declared.role.Role.TheVariants.{Low, High, Nothing, Piece, Plus, Debtor, Token}
-use Rattle.comp_powers_leaf.specs.PowersLeaf.{coefficient_of, owed, power_in, worth, has_bit, role_at, place, start_by, start_of, hub_of, lacking, bit_role, helper_roles, all_helper_roles}
-use Rattle.comp_powers_leaf.proofs.Bits.{more_bits, no_bits, all_bits, some_power}
+use Rattle.comp_bits.specs.Bits.{power_in, has_bit}
+use Rattle.comp_powers_leaf.specs.PowersLeaf.{coefficient_of, owed, worth, role_at, place, start_by, start_of, hub_of, lacking, bit_role, helper_roles, all_helper_roles}
+use Rattle.comp_bits.proofs.Bits.{more_bits, no_bits, all_bits, some_power}
 use Rattle.comp_powers_leaf.proofs.Places.{there}
 use Rattle.comp_powers_leaf.specs.PowersLeaf.{IsRole}
 use Rattle.comp_powers_leaf.proofs.Kept.{waits, worth-power, worth-rest}

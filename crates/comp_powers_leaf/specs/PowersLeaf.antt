@@ -1,5 +1,5 @@
--- PowersLeaf: the built leaf of `a(1)*x(1) + .. < c` with the range 2^k: states are worth a power of two or nothing, two
--- that are worth the same join, and the hub tells whether the sum less c is below 0.
+-- PowersLeaf: the built leaf of `a(1)*x(1) + .. < c` with the range 2^k: states are worth a power of two or nothing,
+-- two that are worth the same join, and the hub tells whether the sum less c is below 0.
 use Rattle.std.specs.Prelude.{◌<◌, ◌≤◌, ◌<ℤ◌, ℕ, zero, suc, ◌+◌, ◌-◌, ◌*◌, ◌^◌, ◌%◌, Bool, true, false, not}
 use Rattle.std.specs.Prelude.{◌&&◌, ◌||◌, ◌==◌, nat_lt, nat_le}
 use Rattle.std.specs.Prelude.{if◌then◌else◌, List, [], ◌∷◌, ◌++◌, length, map, flat_map, slice_index_or, ℤ}
@@ -8,27 +8,20 @@ use Rattle.std.specs.Prelude.{nat_abs, find, replicate, Option, Some, None}
 use Rattle.std.specs.List.{range_with_len}
 use Rattle.std.specs.Fmt.{decimal}
 use Rattle.pop_io.specs.declared.names.TheConstants.{VARIABLE_LIMIT}
-use Rattle.pop_net.specs.declared.limits.TheConstants.{STATE_LIMIT, HELPER_LIMIT}
-use Rattle.pop_net.specs.declared.leaf.Move.{Move}
-use Rattle.pop_net.specs.LeafModel.{LeafModel}
-use Rattle.comp_powers_leaf.specs.declared.limits.TheConstants.{RANGE_LIMIT}
+use Rattle.pop_leaf.specs.declared.limits.TheConstants.{STATE_LIMIT, HELPER_LIMIT}
+use Rattle.pop_leaf.specs.declared.leaf.Move.{Move}
+use Rattle.pop_leaf.specs.LeafModel.{LeafModel}
+use Rattle.comp_bits.specs.Bits.{has_bit, power_in}
+use Rattle.comp_bits.specs.declared.limits.TheConstants.{RANGE_LIMIT}
 use Rattle.comp_powers_leaf.specs.declared.role.Role.{Role}
 use Rattle.comp_powers_leaf.specs.declared.role.Role.TheVariants.{Low, High, Nothing, Piece, Plus, Debtor, Token}
 
 -- ---- numbers
 
--- whether bit i of n is set
-abbrev pub has_bit : ℕ → ℕ → Bool
-has_bit n i = nat_le (2 ^ i) (n % 2 ^ (i + 1))
-
 -- what the tokens of a variable with this coefficient give off: a, or 2^k - |a|
 abbrev pub owed : ℕ → ℤ → ℕ
 owed k (pos n) = n
 owed k (negsuc n) = 2 ^ k - (n + 1)
-
--- the power that n is, up to k
-abbrev pub power_in : ℕ → ℕ → Option ℕ
-power_in k n = find (λ i. 2 ^ i == n) (range_with_len 0 (k + 1))
 
 abbrev pub coefficient_of : List ℤ → ℕ → ℤ
 coefficient_of coefs j = slice_index_or coefs j (pos 0)

@@ -2,8 +2,8 @@
 
 ghost use Rattle.std.specs.Prelude.{◌≡◌, ◌≤◌, ◌≤ℤ◌, ◌^◌, pos, length, map, IfOk};
 ghost use Rattle.std.specs.List.{range_with_len};
-ghost use Rattle.pop_net.specs.declared.limits.TheConstants.{STATE_LIMIT};
-ghost use Rattle.comp_powers_leaf.specs.declared.limits.TheConstants.{RANGE_LIMIT};
+ghost use Rattle.pop_leaf.specs.declared.limits.TheConstants.{STATE_LIMIT};
+ghost use Rattle.comp_bits.specs.declared.limits.TheConstants.{RANGE_LIMIT};
 ghost use Rattle.comp_powers_leaf.specs.PowersLeaf.{says, start_of, powers_inputs, HasRange};
 ghost use Rattle.comp_powers_leaf.specs.PowersLeaf.{roles as all_roles, state_name_at, start_by};
 ghost use Rattle.comp_powers_leaf.specs.PowersLeaf.{hub_of, lacking, bit_role, helper_roles, all_helper_roles};
@@ -12,11 +12,11 @@ ghost use Rattle.comp_trees.specs.DefinedLeaf.{IsDefined};
 
 use crate::listing::{moves, place_in};
 use crate::meeting::{power_role, rest};
-use crate::numbers::{is_set, two_to};
-use crate::placing::{power_of, roles};
+use crate::placing::roles;
 use crate::role::{Role, answer};
+use comp_bits::{is_set, power_of, two_to};
 use pop_io::{List, NoMemory, Text};
-use pop_net::Leaf;
+use pop_leaf::Leaf;
 use std::alloc::Global;
 
 fn outputs(alloc: Global, roles: &[Role]) -> Result<Vec<bool>, NoMemory>

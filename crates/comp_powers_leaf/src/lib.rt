@@ -1,22 +1,19 @@
 //! Leaves that compute `a(1)*x(1) + .. < c` with some three states for each bit, for all coefficients and bounds.
-//! It stands on `comp_trees`.
-//! The layer above uses: `powers_leaf` gives exactly the built leaf; `powers_range` finds the least range that suffices,
-//! and `powers_states` says how many states the leaf has for it (`range-suffices` joins both to `IsPowers`). `two_to` and
-//! `is_set` are powers of 2 and bits.
+//! It stands on `comp_trees` and `comp_bits`.
+//! The layer above uses: `powers_leaf` gives exactly the built leaf; `powers_range` finds the least range that
+//! suffices, and `powers_states` says how many states the leaf has for it (`range-suffices` joins both to `IsPowers`).
 #![tactic(auto)]
 
 mod leaf;
-mod limits;
 mod listing;
 mod meeting;
-mod numbers;
+mod owed;
 mod placing;
 mod range;
 mod role;
 
 pub use leaf::powers_leaf;
-pub use limits::RANGE_LIMIT;
-pub use numbers::{is_set, owed_by, two_to};
-pub use placing::{power_of, powers_states, roles};
+pub use owed::owed_by;
+pub use placing::{powers_states, roles};
 pub use range::powers_range;
 pub use role::{Role, answer};

@@ -3,24 +3,17 @@
 ghost use Rattle.std.specs.Prelude.{◌≡◌, ◌≤◌, ◌++◌, ◌+◌, ◌*◌, length, map, flat_map, IfOk, OnOk};
 ghost use Rattle.std.specs.List.{range_with_len};
 ghost use Rattle.pop_io.specs.declared.names.TheConstants.{VARIABLE_LIMIT};
-ghost use Rattle.comp_powers_leaf.specs.declared.limits.TheConstants.{RANGE_LIMIT};
+ghost use Rattle.comp_bits.specs.declared.limits.TheConstants.{RANGE_LIMIT};
 ghost use Rattle.comp_powers_leaf.specs.declared.role.Role.TheVariants.{Token as token_of};
-ghost use Rattle.comp_powers_leaf.specs.PowersLeaf.{power_in, chain_of, debtors_of, block_of, fixed_roles, pieces_of};
+ghost use Rattle.comp_bits.specs.Bits.{power_in};
+ghost use Rattle.comp_powers_leaf.specs.PowersLeaf.{chain_of, debtors_of, block_of, fixed_roles, pieces_of};
 ghost use Rattle.comp_powers_leaf.specs.PowersLeaf.{roles as all_roles, block_size, states_before};
 ghost use Rattle.comp_powers_leaf.specs.PowersLeaf.{place as place_of, HasRange, IsRole};
 
-use crate::numbers::two_to;
 use crate::role::{Role, behind};
+use comp_bits::power_of;
 use pop_io::NoMemory;
 use std::alloc::Global;
-
-/// The number i with 2^i = n, up to k.
-pub fn power_of(k: u32, n: u64) -> Option<u16>
-    requires { k ≤ RANGE_LIMIT }
-    ensures { result ≡ power_in k n }
-{
-    (0..k as u16 + 1).find(|i| two_to(u32::from(*i)) == n)
-}
 
 /// How many tokens a variable with this coefficient has.
 pub(crate) fn chain(k: u32, coef: i64) -> u16

@@ -5,7 +5,7 @@ use Rattle.std.specs.List.{range_with_len}
 use Rattle.std.proofs.lemmas.List.{length-append, length-map, length-replicate}
 use Rattle.std.proofs.lemmas.List.Elements.{All-from_get_or, All-filter}
 use Rattle.std.proofs.lemmas.List.FromFn.{length-map-range_with_len, get_or-map-range_with_len}
-use Rattle.pop_net.specs.LeafModel.{LeafModel}
+use Rattle.pop_leaf.specs.LeafModel.{LeafModel}
 use Rattle.list_laws.proofs.Ranges.{all_range}
 use Rattle.cert_base.specs.Rows.{zeros}
 use Rattle.cert_base.specs.FactsAndCases.{states_of, can_meet_in}
@@ -15,7 +15,7 @@ use Rattle.cert_base.specs.declared.proof.LeafProof.{LeafProof}
 use Rattle.cert_base.specs.ProofBound.{layers_bound}
 use Rattle.cert_base.specs.ProofLimits.{IsLeafProofWithin}
 use Rattle.cert_base.specs.ValidProof.{ValidLeafProof}
-use Rattle.pop_net.specs.Reaction.{Differ}
+use Rattle.pop_leaf.specs.Reaction.{Differ}
 use Rattle.comp_trees.specs.BuiltLeaf.{IsBuilt}
 use Rattle.comp_counting.specs.FlockAtoms.{enough_for, offset_pred_of}
 use Rattle.comp_counting.specs.FullState.{offset_steps}
@@ -27,7 +27,7 @@ use Rattle.comp_prefix.proofs.Within.{company-short}
 use Rattle.cert_base.specs.declared.node.Node.{Node}
 use Rattle.cert_base.specs.declared.node.Node.TheVariants.{Present}
 use Rattle.comp_trees.proofs.TreeOfEnds.{reverse-cons, nodes-flat}
-use Rattle.comp_powers_leaf.specs.PowersLeaf.{has_bit}
+use Rattle.comp_bits.specs.Bits.{has_bit}
 use Rattle.comp_counting.specs.declared.limits.TheConstants.{POWER_LIMIT}
 use Rattle.comp_prefix.specs.PrefixLeaf.{prefixes, worths, bound_worths, last_place, prefix_leaf_of, AreWorths, IsPrefix}
 use Rattle.comp_prefix.proofs.WorthLaws.{no-more}

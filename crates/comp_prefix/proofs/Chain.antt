@@ -7,8 +7,8 @@ use Rattle.std.proofs.lemmas.Bool.{cases_lt, le-leb}
 use Rattle.std.proofs.lemmas.Nat.{mod_below}
 use Rattle.std.proofs.lemmas.List.{length-append, get_or-append-add}
 use Rattle.std.proofs.lemmas.List.FromFn.{length-map-range_with_len, get_or-map-range_with_len}
-use Rattle.comp_powers_leaf.specs.PowersLeaf.{has_bit}
-use Rattle.comp_powers_leaf.proofs.Bits.{some_power, more_bits, no_bits, all_bits}
+use Rattle.comp_bits.specs.Bits.{has_bit}
+use Rattle.comp_bits.proofs.Bits.{some_power, more_bits, no_bits, all_bits}
 use Rattle.comp_prefix.specs.PrefixLeaf.{prefixes, worths, worth_in}
 
 -- ---- the prefixes

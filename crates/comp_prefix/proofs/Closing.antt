@@ -7,8 +7,8 @@ use Rattle.std.proofs.lemmas.List.{append-nil, length-map}
 use Rattle.std.proofs.lemmas.List.Elements.{filter-append}
 use Rattle.std.proofs.lemmas.List.Sums.{length-filter, count_by-le-length}
 use Rattle.std.proofs.lemmas.List.FromFn.{length-range_with_len, length-map-range_with_len, map-range_with_len_more}
-use Rattle.pop_net.specs.LeafModel.{LeafModel}
-use Rattle.pop_net.specs.declared.leaf.Move.{Move}
+use Rattle.pop_leaf.specs.LeafModel.{LeafModel}
+use Rattle.pop_leaf.specs.declared.leaf.Move.{Move}
 use Rattle.pres_ast.specs.PredModel.{PredModel}
 use Rattle.cert_base.specs.declared.fact.Fact.{Fact}
 use Rattle.cert_base.specs.declared.fact.Fact.TheVariants.{Ge, Holds}
@@ -18,7 +18,7 @@ use Rattle.cert_base.specs.Rows.{input_row}
 use Rattle.cert_base.specs.FactsAndCases.{states_of, flow, base_list, two_agents_fact, wrong_output_fact, absent_fact, occurs_fact, alone_fact, not_twice, can_meet_in, no_moves, takes_from}
 use Rattle.cert_base.specs.Closes.{refutes, cases_of, ClosesUnder, refuted, by_cases, no_case, next_case, Closes}
 use Rattle.comp_trees.specs.LeaderTree.{weighed_node, leader_nodes, company_of}
-use Rattle.comp_powers_leaf.proofs.Bits.{double}
+use Rattle.comp_bits.proofs.Bits.{double}
 use Rattle.comp_counting.specs.FlockAtoms.{says_enough, enough_for, offset_pred_of}
 use Rattle.comp_counting.specs.FullState.{converted_mix, start_mix, never_mix}
 use Rattle.comp_counting.proofs.Opened.{opened_row, opened_constant, opened-is}

@@ -4,7 +4,7 @@ use Rattle.std.specs.Prelude.{ℤ, pos, nat_abs}
 use Rattle.std.specs.List.{list_all, range_with_len}
 use Rattle.std.proofs.lemmas.List.{length-map}
 use Rattle.std.proofs.lemmas.List.Elements.{All-nil, All-get_or}
-use Rattle.pop_net.specs.LeafModel.{IsLeaf}
+use Rattle.pop_leaf.specs.LeafModel.{IsLeaf}
 use Rattle.pres_ast.specs.declared.limits.TheConstants.{COEFFICIENT_LIMIT}
 use Rattle.comp_trees.proofs.Mixes.{IsPlain}
 use Rattle.comp_counting.specs.declared.limits.TheConstants.{POWER_LIMIT}

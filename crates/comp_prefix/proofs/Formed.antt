@@ -9,10 +9,10 @@ use Rattle.std.proofs.lemmas.List.Elements.{All-nil}
 use Rattle.std.proofs.lemmas.List.FromFn.{length-map-range_with_len}
 use Rattle.pop_io.specs.declared.names.TheConstants.{VARIABLE_LIMIT}
 use Rattle.pop_io.specs.Names.{state_name, AreNames}
-use Rattle.pop_net.specs.declared.leaf.Move.{Move}
-use Rattle.pop_net.specs.LeafModel.{LeafModel, IsLeaf, IsMoveBelow}
+use Rattle.pop_leaf.specs.declared.leaf.Move.{Move}
+use Rattle.pop_leaf.specs.LeafModel.{LeafModel, IsLeaf, IsMoveBelow}
 use Rattle.comp_trees.proofs.StateNames.{number-named, named-apart}
-use Rattle.comp_powers_leaf.proofs.Bits.{power-le}
+use Rattle.comp_bits.proofs.Bits.{power-le}
 use Rattle.comp_counting.specs.declared.limits.TheConstants.{POWER_LIMIT}
 use Rattle.comp_counting.specs.FlockAtoms.{is_counted, says_enough, enough_for}
 use Rattle.comp_counting.specs.FullState.{flock_start, flock_output}

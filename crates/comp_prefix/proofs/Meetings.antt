@@ -3,14 +3,14 @@ use Rattle.std.proofs.Common.{◌≡◌, ◌⊎◌, inl, inr, subst, ℕ, zero, 
 use Rattle.std.specs.Prelude.{Contains}
 use Rattle.std.specs.List.{list_any}
 use Rattle.std.proofs.lemmas.Bool.{cases_lt}
-use Rattle.pop_net.specs.declared.leaf.Move.{Move}
-use Rattle.pop_net.specs.LeafModel.{silent_move}
-use Rattle.pop_net.specs.Reaction.{takes_states}
-use Rattle.pop_net.proofs.Silent.{takes-own, same-other}
+use Rattle.pop_leaf.specs.declared.leaf.Move.{Move}
+use Rattle.pop_leaf.specs.LeafModel.{silent_move}
+use Rattle.pop_leaf.specs.Reaction.{takes_states}
+use Rattle.pop_leaf.proofs.Silent.{takes-own, same-other}
 use Rattle.cert_base.proofs.WeightedSums.{list_any-from}
 use Rattle.comp_counting.specs.FullState.{conversion_move}
 use Rattle.comp_counting.proofs.Conversions.{differ_pair, conversion-loud}
-use Rattle.comp_powers_leaf.proofs.Bits.{double}
+use Rattle.comp_bits.proofs.Bits.{double}
 use Rattle.comp_prefix.specs.PrefixLeaf.{worth_in, full_move, join_move, prefix_moves}
 use Rattle.comp_prefix.proofs.Chain.{IsChain}
 use Rattle.comp_prefix.proofs.WorthLaws.{step-up, high, far, twice-worth}

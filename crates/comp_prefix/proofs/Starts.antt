@@ -4,9 +4,9 @@ use Rattle.std.specs.Prelude.{ℤ, pos, if◌then◌else◌, ◌==◌, All, nat_
 use Rattle.std.specs.List.{range_with_len, list_all}
 use Rattle.std.proofs.lemmas.Bool.{leb-true, leb-false, eqb-true, cases_lt}
 use Rattle.std.proofs.lemmas.List.Elements.{All-map, All-from_get_or}
-use Rattle.pop_net.proofs.Found.{find_some}
-use Rattle.comp_powers_leaf.specs.PowersLeaf.{power_in}
-use Rattle.comp_powers_leaf.proofs.Bits.{power-le}
+use Rattle.pop_leaf.proofs.Found.{find_some}
+use Rattle.comp_bits.specs.Bits.{power_in}
+use Rattle.comp_bits.proofs.Bits.{power-le}
 use Rattle.comp_counting.specs.declared.limits.TheConstants.{POWER_LIMIT}
 use Rattle.comp_counting.specs.FlockAtoms.{is_counted, is_size}
 use Rattle.comp_counting.specs.FullState.{place_of, flock_start}

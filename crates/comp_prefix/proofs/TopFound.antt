@@ -4,7 +4,7 @@ use Rattle.std.specs.Prelude.{ℤ, pos, negsuc, Some, None, find, nat_le, nat_lt
 use Rattle.std.specs.List.{range_with_len, list_all}
 use Rattle.std.proofs.lemmas.Bool.{leb-true, le-leb, lt-ltb, ltb-true, ltb-false, and_parts}
 use Rattle.pres_ast.specs.PredModel.{IsAtomSum}
-use Rattle.comp_powers_leaf.proofs.Bits.{power-le}
+use Rattle.comp_bits.proofs.Bits.{power-le}
 use Rattle.comp_counting.specs.declared.limits.TheConstants.{POWER_LIMIT}
 use Rattle.comp_counting.specs.FlockAtoms.{is_counted, says_enough, enough_for}
 use Rattle.comp_counting.proofs.FirstFound.{find-first, find-any, find-in}

@@ -1,7 +1,7 @@
 -- The proof of a built leaf of prefixes is valid and within the limits.
 use Rattle.std.proofs.Common.{◌≡◌, ◌∙◌, ℕ, Bool, true, false, List, [], length, refl, ap, arith}
 use Rattle.std.specs.Prelude.{ℤ, not}
-use Rattle.pop_net.specs.LeafModel.{LeafModel}
+use Rattle.pop_leaf.specs.LeafModel.{LeafModel}
 use Rattle.pres_ast.specs.PredModel.{PredModel}
 use Rattle.cert_base.specs.declared.layer.Layer.{Layer}
 use Rattle.cert_base.specs.declared.node.Node.{Node}

@@ -8,7 +8,7 @@ use Rattle.std.proofs.lemmas.Bool.{cases_lt, lt-ltb, le-ltb}
 use Rattle.list_laws.proofs.Ranges.{range_next}
 use Rattle.cert_base.specs.WeightedSums.{total}
 use Rattle.comp_trees.proofs.HelperSums.{total-append}
-use Rattle.comp_powers_leaf.proofs.Bits.{double, some_power, power-le}
+use Rattle.comp_bits.proofs.Bits.{double, some_power, power-le}
 use Rattle.comp_prefix.specs.PrefixLeaf.{worth_in}
 use Rattle.comp_prefix.specs.PrefixProof.{is_low, kept_worth, own_worth}
 use Rattle.comp_prefix.proofs.Chain.{IsNext, IsChain}

@@ -2,8 +2,8 @@
 -- same states, and its proof is valid; and which atoms have one.
 use Rattle.std.specs.Prelude.{◌≡◌, ◌≤◌, ℕ, ◌+◌, ◌^◌, true, List, [], ℤ, length, AllPairs, Some}
 use Rattle.std.specs.List.{list_all}
-use Rattle.pop_net.specs.LeafModel.{IsLeaf}
-use Rattle.pop_net.specs.Reaction.{Differ}
+use Rattle.pop_leaf.specs.LeafModel.{IsLeaf}
+use Rattle.pop_leaf.specs.Reaction.{Differ}
 use Rattle.pres_ast.specs.PredModel.{IsAtomSum}
 use Rattle.cert_base.specs.ValidProof.{ValidLeafProof}
 use Rattle.cert_base.specs.ProofLimits.{IsLeafProofWithin}

@@ -5,10 +5,10 @@ use Rattle.std.specs.Prelude.{if◌then◌else◌, List, [], ◌∷◌, ◌++◌
 use Rattle.std.specs.Prelude.{None, find, All}
 use Rattle.std.specs.List.{range_with_len, list_all}
 use Rattle.std.specs.Fmt.{decimal}
-use Rattle.pop_net.specs.declared.leaf.Move.{Move}
-use Rattle.pop_net.specs.LeafModel.{LeafModel}
+use Rattle.pop_leaf.specs.declared.leaf.Move.{Move}
+use Rattle.pop_leaf.specs.LeafModel.{LeafModel}
 use Rattle.pres_ast.specs.PredModel.{IsAtomSum}
-use Rattle.comp_powers_leaf.specs.PowersLeaf.{has_bit}
+use Rattle.comp_bits.specs.Bits.{has_bit}
 use Rattle.comp_counting.specs.declared.limits.TheConstants.{POWER_LIMIT, PLACE_LIMIT}
 use Rattle.comp_counting.specs.FlockAtoms.{is_counted, says_enough, enough_for}
 use Rattle.comp_counting.specs.FullState.{conversion_move, flock_start, flock_state_count, flock_output}
@@ -53,8 +53,8 @@ pub record AreWorths (ws : List ℕ) (k : ℕ) : Type 0 where
   pub few : k ≤ PLACE_LIMIT
   pub small : All (λ n. n ≤ 2 ^ POWER_LIMIT) ws
 
--- ---- moves: two agents that are worth c or more become full, state k + 1; two that are worth as much as the next state
--- join; and a full one turns all others
+-- ---- moves: two agents that are worth c or more become full, state k + 1; two that are worth as much as the next
+-- state join; and a full one turns all others
 
 abbrev pub full_move : ℕ → ℕ → ℕ → Move
 full_move k p q = record { p = p; q = q; r = k + 1; s = k + 1 }

@@ -10,7 +10,7 @@ use crate::naming::names;
 use crate::worths::Worths;
 use comp_counting::{inputs, outputs, says_enough};
 use pop_io::{List, NoMemory};
-use pop_net::Leaf;
+use pop_leaf::Leaf;
 use std::alloc::Global;
 
 /// The leaf of the atom with these numbers, whose states are worth this.

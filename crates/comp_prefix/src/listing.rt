@@ -9,7 +9,7 @@ ghost use Rattle.comp_prefix.specs.PrefixLeaf.{moves_from as from_of, prefix_mov
 
 use crate::worths::{Worths, worth_in};
 use pop_io::NoMemory;
-use pop_net::Move;
+use pop_leaf::Move;
 use std::alloc::Global;
 
 /// Both become full.

@@ -11,11 +11,11 @@ ghost use Rattle.comp_prefix.specs.PrefixProof.{is_low as low_of, kept_worth as 
 ghost use Rattle.comp_prefix.specs.PrefixProof.{own_worth as own_of, with_mix, without_mix, first_mix};
 
 use crate::worths::{Worths, worth_in};
+use comp_bits::two_to;
 use comp_counting::POWER_LIMIT as GREATEST_POWER;
-use comp_powers_leaf::two_to;
 use comp_trees::{company, mix, picked};
 use pop_io::NoMemory;
-use pop_net::Leaf;
+use pop_leaf::Leaf;
 use std::alloc::Global;
 
 fn own_worth(worths: &Worths<'_>, q: u16) -> i64

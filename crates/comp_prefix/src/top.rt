@@ -6,8 +6,8 @@ ghost use Rattle.comp_counting.specs.declared.limits.TheConstants.{POWER_LIMIT a
 ghost use Rattle.comp_counting.specs.FlockAtoms.{is_counted};
 ghost use Rattle.comp_prefix.specs.PrefixLeaf.{top_of_counted, prefix_top as top_of};
 
+use comp_bits::two_to;
 use comp_counting::{POWER_LIMIT, are_counted, enough_for, says_enough};
-use comp_powers_leaf::two_to;
 
 fn is_above(enough: u64, k: u32) -> bool
     requires { k ≤ GREATEST_POWER }

@@ -15,7 +15,7 @@ use cert_base::Node;
 use comp_counting::{converted_node, full_tree, opened_number};
 use comp_trees::weighed;
 use pop_io::{List, NoMemory};
-use pop_net::Leaf;
+use pop_leaf::Leaf;
 use std::alloc::Global;
 
 /// A twin for each power.

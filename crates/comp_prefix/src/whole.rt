@@ -13,7 +13,7 @@ use crate::worths::{Worths, all_worths};
 use cert_base::LeafProof;
 use comp_counting::{POWER_LIMIT, counting_layers, enough_for, offset_pred, says_enough};
 use pop_io::NoMemory;
-use pop_net::Leaf;
+use pop_leaf::Leaf;
 use std::alloc::Global;
 
 fn leaf_proof(

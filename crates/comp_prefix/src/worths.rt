@@ -3,18 +3,18 @@
 ghost use Rattle.std.specs.Prelude.{◌≡◌, ◌≤◌, ◌+◌, ◌-◌, ◌^◌, ◌%◌, ◌++◌, ◌∷◌, [], length, map, if◌then◌else◌, IfOk};
 ghost use Rattle.std.specs.Prelude.{OnOk};
 ghost use Rattle.std.specs.List.{range_with_len};
-ghost use Rattle.comp_powers_leaf.specs.PowersLeaf.{has_bit};
+ghost use Rattle.comp_bits.specs.Bits.{has_bit};
 ghost use Rattle.comp_counting.specs.declared.limits.TheConstants.{POWER_LIMIT};
 ghost use Rattle.comp_prefix.specs.PrefixLeaf.{prefixes, worths as worths_of, worth_in as worth_of, bound_worths};
 ghost use Rattle.comp_prefix.specs.PrefixLeaf.{AreWorths};
 
+use comp_bits::{is_set, two_to};
 use comp_counting::enough_for;
-use comp_powers_leaf::{is_set, two_to};
 use pop_io::NoMemory;
 use std::alloc::Global;
 
-/// What the states of a leaf are worth: nothing, then the powers up to the place `top`, then the prefixes of `enough` up
-/// to the place `k`; the full state behind them is worth at least `enough`.
+/// What the states of a leaf are worth: nothing, then the powers up to the place `top`, then the prefixes of `enough`
+/// up to the place `k`; the full state behind them is worth at least `enough`.
 #[derive(Clone, Copy)]
 pub(crate) struct Worths<'a> {
     pub(crate) list: &'a [u64],

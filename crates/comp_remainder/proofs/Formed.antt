@@ -6,9 +6,9 @@ use Rattle.std.proofs.Math.Nat.{mod-lt}
 use Rattle.std.proofs.lemmas.List.{length-map, length-append, length-replicate}
 use Rattle.std.proofs.lemmas.List.Elements.{All-map, All-from_get_or, All-replicate}
 use Rattle.std.proofs.lemmas.List.FromFn.{length-range_with_len, length-map-range_with_len}
-use Rattle.pop_net.specs.declared.leaf.Move.{Move}
-use Rattle.pop_net.specs.LeafModel.{LeafModel, IsLeaf, IsMoveBelow}
-use Rattle.pop_net.specs.declared.limits.TheConstants.{HELPER_LIMIT}
+use Rattle.pop_leaf.specs.declared.leaf.Move.{Move}
+use Rattle.pop_leaf.specs.LeafModel.{LeafModel, IsLeaf, IsMoveBelow}
+use Rattle.pop_leaf.specs.declared.limits.TheConstants.{HELPER_LIMIT}
 use Rattle.comp_remainder.specs.RemainderLeaf.{residue_of, leader_meeting, follower_turn, remainder_pairs, remainder_moves, remainder_state_name, remainder_output, remainder_leaf_of}
 use Rattle.comp_remainder.proofs.MoveLists.{all_moves, follower-below}
 use Rattle.comp_remainder.proofs.Remainders.{residue-below}

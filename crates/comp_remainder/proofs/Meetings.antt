@@ -2,14 +2,14 @@
 use Rattle.std.proofs.Common.{◌≡◌, ◌⊎◌, inl, inr, ℕ, ◌<◌, ◌≤◌, true, false, List, refl, arith}
 use Rattle.std.specs.Prelude.{ℤ, not, ◌==◌}
 use Rattle.std.proofs.lemmas.Bool.{cases_lt}
-use Rattle.pop_net.specs.declared.leaf.Move.{Move}
-use Rattle.pop_net.specs.LeafModel.{silent_move, same_pair}
-use Rattle.pop_net.specs.Reaction.{takes_states}
+use Rattle.pop_leaf.specs.declared.leaf.Move.{Move}
+use Rattle.pop_leaf.specs.LeafModel.{silent_move, same_pair}
+use Rattle.pop_leaf.specs.Reaction.{takes_states}
 use Rattle.cert_base.specs.FactsAndCases.{can_meet_in}
 use Rattle.cert_base.proofs.WeightedSums.{list_any-from}
 use Rattle.comp_remainder.specs.RemainderLeaf.{remainder_follower, leader_meeting, follower_turn, remainder_moves, remainder_leaf_of}
 use Rattle.comp_remainder.proofs.MoveLists.{has_pair, has_turn, pair-loud, turn-loud}
-use Rattle.pop_net.proofs.Silent.{same-self, same-other}
+use Rattle.pop_leaf.proofs.Silent.{same-self, same-other}
 
 -- a loud move takes its states
 takes-by : (p q : ℕ) (t : Move) → silent_move t ≡ false → same_pair p q t.p t.q ≡ true → takes_states p q t ≡ true

@@ -2,7 +2,7 @@
 use Rattle.std.proofs.Common.{◌≡◌, ℕ, ◌+◌, ◌≤◌, arith}
 use Rattle.std.specs.Prelude.{◌==◌, nat_lt}
 use Rattle.std.proofs.lemmas.Bool.{lt-ltb, le-ltb, eq-eqb, ne_eqb}
-use Rattle.pop_net.specs.LeafModel.{LeafModel}
+use Rattle.pop_leaf.specs.LeafModel.{LeafModel}
 use Rattle.cert_base.specs.ProofBound.{weights_spread, layers_bound}
 use Rattle.comp_trees.specs.SortedLayers.{sorted_layer, leader_kind}
 use Rattle.comp_trees.proofs.ThreeLayers.{three_layers, indicator_spread}

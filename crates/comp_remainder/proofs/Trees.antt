@@ -7,8 +7,8 @@ use Rattle.std.proofs.lemmas.Bool.{lt-ltb, le-ltb, eq-eqb, eqb-true, eqb-false, 
 use Rattle.std.proofs.lemmas.List.{length-map, get_or-map}
 use Rattle.std.proofs.lemmas.List.Elements.{All-map, All-replicate, All-from_get_or}
 use Rattle.std.proofs.lemmas.List.FromFn.{length-map-range_with_len, get_or-map-range_with_len}
-use Rattle.pop_net.specs.declared.leaf.Move.{Move}
-use Rattle.pop_net.specs.LeafModel.{LeafModel, IsLeaf}
+use Rattle.pop_leaf.specs.declared.leaf.Move.{Move}
+use Rattle.pop_leaf.specs.LeafModel.{LeafModel, IsLeaf}
 use Rattle.pres_ast.specs.PredTree.{Congruent}
 use Rattle.pres_ast.specs.PredModel.{PredModel}
 use Rattle.pres_ast.specs.PredicateValue.{is_multiple}

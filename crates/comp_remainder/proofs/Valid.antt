@@ -1,8 +1,8 @@
 -- The proof of a built leaf of `Rest` is valid and within the limits.
 use Rattle.std.proofs.Common.{◌≡◌, ◌∙◌, refl, ap, sym, subst, true, false, ℕ, ◌<◌, ◌≤◌, List, length, arith}
 use Rattle.std.specs.Prelude.{ℤ}
-use Rattle.pop_net.specs.LeafModel.{LeafModel}
-use Rattle.pop_net.specs.declared.limits.TheConstants.{HELPER_LIMIT}
+use Rattle.pop_leaf.specs.LeafModel.{LeafModel}
+use Rattle.pop_leaf.specs.declared.limits.TheConstants.{HELPER_LIMIT}
 use Rattle.pres_ast.specs.PredModel.{PredModel}
 use Rattle.cert_base.specs.declared.layer.Layer.{Layer}
 use Rattle.cert_base.specs.declared.node.Node.{Node}

@@ -1,7 +1,7 @@
 -- RemainderLayers: the layers for a built leaf of `Rest`.
 use Rattle.std.specs.Prelude.{ℕ, ◌+◌, Bool, ◌==◌, nat_lt, List, [], ◌∷◌, ℤ, map}
 use Rattle.std.specs.List.{range_with_len}
-use Rattle.pop_net.specs.LeafModel.{LeafModel}
+use Rattle.pop_leaf.specs.LeafModel.{LeafModel}
 use Rattle.cert_base.specs.declared.layer.Layer.{Layer}
 use Rattle.cert_base.specs.FactsAndCases.{indicator}
 use Rattle.comp_trees.specs.SortedLayers.{sorted_layers, leader_kind}

@@ -5,8 +5,8 @@ use Rattle.std.specs.Prelude.{flat_map, replicate, ℤ, pos, nat_abs}
 use Rattle.std.specs.List.{range_with_len}
 use Rattle.std.specs.Int.{int_rem_euclid}
 use Rattle.std.specs.Fmt.{decimal}
-use Rattle.pop_net.specs.declared.leaf.Move.{Move}
-use Rattle.pop_net.specs.LeafModel.{LeafModel}
+use Rattle.pop_leaf.specs.declared.leaf.Move.{Move}
+use Rattle.pop_leaf.specs.LeafModel.{LeafModel}
 
 -- the remainder, from 0 to m - 1
 abbrev pub residue_of : ℕ → ℤ → ℕ

@@ -1,7 +1,7 @@
 -- RemainderProof: the trees and the whole proof for a built leaf of `Rest`. A leader counts for its remainder, and a
 -- follower for nothing.
 use Rattle.std.specs.Prelude.{ℕ, Bool, true, false, nat_lt, if◌then◌else◌, List, ℤ, pos, negsuc, length}
-use Rattle.pop_net.specs.LeafModel.{LeafModel}
+use Rattle.pop_leaf.specs.LeafModel.{LeafModel}
 use Rattle.pres_ast.specs.PredTree.{Congruent}
 use Rattle.pres_ast.specs.PredModel.{PredModel}
 use Rattle.cert_base.specs.declared.node.Node.{Node}

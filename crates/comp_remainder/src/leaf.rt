@@ -10,7 +10,7 @@ use crate::listing::moves;
 use crate::modulus::Modulus;
 use crate::naming::names;
 use pop_io::{List, NoMemory};
-use pop_net::{HELPER_LIMIT, Leaf};
+use pop_leaf::{HELPER_LIMIT, Leaf};
 use std::alloc::Global;
 
 /// What an agent in a state answers.

@@ -7,7 +7,7 @@ ghost use Rattle.comp_remainder.specs.RemainderLeaf.{remainder_pairs, remainder_
 
 use crate::modulus::Modulus;
 use pop_io::NoMemory;
-use pop_net::Move;
+use pop_leaf::Move;
 use std::alloc::Global;
 
 /// The follower with an answer.

@@ -12,7 +12,7 @@ use crate::modulus::Modulus;
 use cert_base::Node;
 use comp_trees::{MixParts, multipliers, terms, tree, weighed};
 use pop_io::{List, NoMemory};
-use pop_net::Leaf;
+use pop_leaf::Leaf;
 use std::alloc::Global;
 
 /// What a state counts for.

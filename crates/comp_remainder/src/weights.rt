@@ -8,7 +8,7 @@ use crate::modulus::Modulus;
 use cert_base::Layer;
 use comp_trees::layer;
 use pop_io::{List, NoMemory};
-use pop_net::Leaf;
+use pop_leaf::Leaf;
 use std::alloc::Global;
 
 /// 1 where a test passes.

@@ -12,7 +12,7 @@ use crate::node::both_trees;
 use crate::weights::leaf_layers;
 use cert_base::LeafProof;
 use pop_io::{List, NoMemory};
-use pop_net::{HELPER_LIMIT, Leaf};
+use pop_leaf::{HELPER_LIMIT, Leaf};
 use pres_ast::{Pred, Tree};
 use std::alloc::Global;
 

@@ -11,7 +11,7 @@ use Rattle.std.proofs.lemmas.List.FromFn.{length-range_with_len, length-map-rang
 use Rattle.pop_io.specs.declared.names.TheConstants.{VARIABLE_LIMIT}
 use Rattle.cert_base.specs.declared.limits.TheConstants.{FACT_LIMIT}
 use Rattle.comp_threshold.specs.declared.limits.TheConstants.{WIDTH_LIMIT}
-use Rattle.pop_net.specs.LeafModel.{IsLeaf, IsMoveBelow}
+use Rattle.pop_leaf.specs.LeafModel.{IsLeaf, IsMoveBelow}
 use Rattle.comp_threshold.specs.ThresholdLeaf.{threshold_width, span_of, place_of_value, threshold_leader_move, alters_states, threshold_pairs, threshold_turns, threshold_moves, threshold_state_count, threshold_state_name, threshold_output, built, threshold_leaf_of}
 use Rattle.comp_threshold.proofs.Places.{place-most, width-coef}
 use Rattle.comp_threshold.proofs.MoveLists.{all_moves, leader_move-below}

@@ -5,9 +5,9 @@ use Rattle.std.specs.List.{range_with_len}
 use Rattle.std.proofs.lemmas.Bool.{cases_lt, ne_eqb, not-true}
 use Rattle.std.proofs.lemmas.List.Elements.{All-append, All-map, All-filter, Contains-append_left, Contains-append_right}
 use Rattle.std.proofs.Math.Bool.{and-false}
-use Rattle.pop_net.specs.declared.leaf.Move.{Move}
-use Rattle.pop_net.specs.LeafModel.{silent_move, IsMoveBelow}
-use Rattle.pop_net.specs.Reaction.{takes_states}
+use Rattle.pop_leaf.specs.declared.leaf.Move.{Move}
+use Rattle.pop_leaf.specs.LeafModel.{silent_move, IsMoveBelow}
+use Rattle.pop_leaf.specs.Reaction.{takes_states}
 use Rattle.cert_base.specs.FactsAndCases.{can_meet_in}
 use Rattle.cert_base.proofs.WeightedSums.{list_any-from}
 use Rattle.comp_trees.proofs.Members.{all_flat, range_has, has_filter, has_flat}
@@ -15,7 +15,7 @@ use Rattle.comp_threshold.specs.ThresholdLeaf.{span_of, threshold_place, thresho
 use Rattle.comp_threshold.proofs.Places.{IsCut, cut, Kind, kind_of, place-below, follower-above, follower-below}
 use Rattle.list_laws.proofs.Ranges.{all_range}
 use Rattle.list_laws.proofs.Lists.{has_map, all_filtered}
-use Rattle.pop_net.proofs.Silent.{same-self, same-other}
+use Rattle.pop_leaf.proofs.Silent.{same-self, same-other}
 use Rattle.list_laws.proofs.Numbers.{same_turned}
 
 -- ---- moves

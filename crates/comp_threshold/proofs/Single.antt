@@ -4,7 +4,7 @@ use Rattle.std.specs.Prelude.{All, AllPairs, flat_map}
 use Rattle.std.specs.List.{range_with_len}
 use Rattle.std.proofs.lemmas.List.Elements.{All-map, All-filter}
 use Rattle.std.proofs.lemmas.List.Kept.{AllPairs-filter}
-use Rattle.pop_net.specs.Reaction.{Differ}
+use Rattle.pop_leaf.specs.Reaction.{Differ}
 use Rattle.comp_trees.proofs.Members.{all_flat}
 use Rattle.comp_trees.proofs.SortedLayers.{AllPairs-append}
 use Rattle.comp_trees.proofs.Single.{pairs_map, pairs_flat, differ-by}

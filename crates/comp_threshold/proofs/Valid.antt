@@ -1,6 +1,6 @@
 -- The proof of a built leaf of `Less` is valid.
 use Rattle.std.proofs.Common.{◌≡◌, ◌∙◌, ap, sym, subst, Bool, true, false, ℕ, ◌≤◌, List, length, map}
-use Rattle.pop_net.specs.LeafModel.{LeafModel}
+use Rattle.pop_leaf.specs.LeafModel.{LeafModel}
 use Rattle.pres_ast.specs.PredTree.{LessThan}
 use Rattle.pres_ast.specs.PredModel.{PredModel}
 use Rattle.cert_base.specs.declared.layer.Layer.{Layer}
@@ -9,7 +9,7 @@ use Rattle.cert_base.specs.declared.proof.LeafProof.{LeafProof}
 use Rattle.std.specs.Prelude.{ℤ, AllPairs}
 use Rattle.std.specs.List.{range_with_len}
 use Rattle.std.proofs.lemmas.List.FromFn.{length-map-range_with_len}
-use Rattle.pop_net.specs.Reaction.{Differ}
+use Rattle.pop_leaf.specs.Reaction.{Differ}
 use Rattle.cert_base.specs.ProofBound.{layers_bound}
 use Rattle.cert_base.specs.ProofLimits.{IsLeafProofWithin}
 use Rattle.cert_base.specs.ValidProof.{ValidLeafProof}

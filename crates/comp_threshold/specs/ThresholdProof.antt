@@ -4,7 +4,7 @@ use Rattle.std.specs.Prelude.{neg_ℤ, map}
 use Rattle.std.specs.List.{range_with_len}
 use Rattle.cert_base.specs.declared.layer.Layer.{Layer}
 use Rattle.comp_trees.specs.SortedLayers.{sorted_layers, leader_kind}
-use Rattle.pop_net.specs.LeafModel.{LeafModel}
+use Rattle.pop_leaf.specs.LeafModel.{LeafModel}
 use Rattle.cert_base.specs.declared.node.Node.{Node}
 use Rattle.cert_base.specs.FactsAndCases.{differs, indicator}
 use Rattle.comp_trees.specs.LeaderTree.{company_of, mix_of_leader, wrong_mix, value_mix, weighed_node, leader_tree}

@@ -5,7 +5,7 @@ ghost use Rattle.std.specs.List.{range_with_len};
 ghost use Rattle.comp_threshold.specs.ThresholdLeaf.{threshold_state_count, threshold_output};
 
 use crate::narrow::Width;
-use pop_net::Leaf;
+use pop_leaf::Leaf;
 
 /// A leaf of this width, whose outputs have the bound at this place.
 #[derive(Clone, Copy)]

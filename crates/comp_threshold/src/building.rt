@@ -2,7 +2,7 @@
 
 ghost use Rattle.std.specs.Prelude.{◌≡◌, ◌≤◌, map, nat_abs, All, IfOk};
 ghost use Rattle.std.specs.List.{range_with_len};
-ghost use Rattle.pop_net.specs.LeafModel.{IsLeaf};
+ghost use Rattle.pop_leaf.specs.LeafModel.{IsLeaf};
 ghost use Rattle.comp_trees.specs.DefinedLeaf.{HasInputs, IsDefined};
 ghost use Rattle.comp_threshold.specs.ThresholdLeaf.{threshold_width, place_of_value, threshold_output};
 ghost use Rattle.comp_threshold.specs.ThresholdLeaf.{threshold_state_count, built, threshold_leaf_of};
@@ -12,7 +12,7 @@ use crate::naming::names;
 use crate::narrow::Width;
 use crate::values::{place, span};
 use pop_io::{List, NoMemory};
-use pop_net::Leaf;
+use pop_leaf::Leaf;
 use std::alloc::Global;
 
 /// A state's output, with the bound at place t. Allocates nothing.

@@ -8,7 +8,7 @@ ghost use Rattle.comp_threshold.specs.ThresholdLeaf.{threshold_moves};
 use crate::narrow::Width;
 use crate::values::{follower, place_in, span};
 use pop_io::NoMemory;
-use pop_net::Move;
+use pop_leaf::Move;
 use std::alloc::Global;
 
 /// What a leader and a state become when they meet.

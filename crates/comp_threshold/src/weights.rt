@@ -10,7 +10,7 @@ use crate::values::{place_in, span};
 use cert_base::Layer;
 use comp_trees::layer;
 use pop_io::{List, NoMemory};
-use pop_net::Leaf;
+use pop_leaf::Leaf;
 use std::alloc::Global;
 
 fn distance(a: u16, b: u16) -> u16

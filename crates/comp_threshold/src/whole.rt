@@ -1,7 +1,7 @@
 //! The leaf with its proof.
 
 ghost use Rattle.std.specs.Prelude.{◌≡◌, ◌≤◌, nat_abs, AllPairs, length, IfOk};
-ghost use Rattle.pop_net.specs.Reaction.{Differ};
+ghost use Rattle.pop_leaf.specs.Reaction.{Differ};
 ghost use Rattle.pres_ast.specs.PredTree.{LessThan};
 ghost use Rattle.pres_ast.specs.declared.limits.TheConstants.{BOUND_LIMIT};
 ghost use Rattle.pres_ast.specs.PredModel.{IsAtomSum};
@@ -19,7 +19,7 @@ use crate::weights::leaf_layers;
 use crate::wide::width;
 use cert_base::LeafProof;
 use pop_io::{Failure, List, NoMemory};
-use pop_net::Leaf;
+use pop_leaf::Leaf;
 use pres_ast::{Pred, Tree};
 use std::alloc::Global;
 

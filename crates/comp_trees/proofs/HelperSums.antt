@@ -6,7 +6,7 @@ use Rattle.std.proofs.lemmas.Int.{ints}
 use Rattle.std.proofs.Math.IntN.{*ℤ-zero}
 use Rattle.std.proofs.lemmas.List.Elements.{All-head, All-tail}
 use Rattle.std.proofs.lemmas.List.Sums.{sum_by-cons}
-use Rattle.pop_net.specs.LeafModel.{LeafModel}
+use Rattle.pop_leaf.specs.LeafModel.{LeafModel}
 use Rattle.cert_base.specs.FactsAndCases.{indicator, states_of, flow}
 use Rattle.cert_base.specs.WeightedSums.{sum_of_facts, constant_of, total}
 use Rattle.cert_base.proofs.Integers.{mul-add}

@@ -2,8 +2,8 @@
 use Rattle.std.proofs.Common.{◌≡◌, ℕ, suc, ◌+◌, ◌^◌, ◌<◌, ◌≤◌, Bool, true, false, List, [], ◌∷◌, length, arith}
 use Rattle.std.specs.Prelude.{ℤ, All, if◌then◌else◌, Some, slice_get, ◌==◌}
 use Rattle.cert_base.specs.ProofLimits.{IsSmall, IsLayerWithin}
-use Rattle.pop_net.specs.declared.leaf.Move.{Move}
-use Rattle.pop_net.specs.declared.limits.TheConstants.{MOVE_LIMIT, STATE_LIMIT}
+use Rattle.pop_leaf.specs.declared.leaf.Move.{Move}
+use Rattle.pop_leaf.specs.declared.limits.TheConstants.{MOVE_LIMIT, STATE_LIMIT}
 use Rattle.std.proofs.lemmas.Option.{slice_get_within}
 use Rattle.cert_base.specs.FactsAndCases.{places_from}
 use Rattle.cert_base.proofs.Indicators.{all_places}

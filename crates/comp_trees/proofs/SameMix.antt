@@ -5,8 +5,8 @@ use Rattle.std.proofs.lemmas.List.Elements.{All-head, All-tail, All-filter}
 use Rattle.std.proofs.lemmas.List.{length-map, length-append, length-replicate}
 use Rattle.std.proofs.lemmas.List.Sums.{length-filter, count_by-le-length}
 use Rattle.std.proofs.lemmas.List.FromFn.{get_or-map-range_with_len, length-map-range_with_len, length-range_with_len}
-use Rattle.pop_net.specs.LeafModel.{LeafModel}
-use Rattle.pop_net.specs.declared.limits.TheConstants.{STATE_LIMIT}
+use Rattle.pop_leaf.specs.LeafModel.{LeafModel}
+use Rattle.pop_leaf.specs.declared.limits.TheConstants.{STATE_LIMIT}
 use Rattle.cert_base.specs.declared.limits.TheConstants.{TERM_LIMIT}
 use Rattle.cert_base.specs.Rows.{zeros}
 use Rattle.cert_base.specs.FactsAndCases.{states_of, can_meet_in}

@@ -6,7 +6,7 @@ use Rattle.std.proofs.lemmas.Bool.{ne_eqb}
 use Rattle.std.proofs.lemmas.List.Elements.{All-map}
 use Rattle.std.proofs.lemmas.List.Kept.{AllPairs-cons}
 use Rattle.std.proofs.Math.Bool.{and-false}
-use Rattle.pop_net.specs.LeafModel.{same_pair}
+use Rattle.pop_leaf.specs.LeafModel.{same_pair}
 use Rattle.comp_trees.proofs.Members.{all_flat}
 use Rattle.comp_trees.proofs.SortedLayers.{AllPairs-append}
 use Rattle.list_laws.proofs.Ranges.{all_range}

@@ -1,7 +1,7 @@
 -- BuiltLeaf: what a built leaf is together with its part of a proof.
 use Rattle.std.specs.Prelude.{◌≡◌, ℕ, AllPairs}
-use Rattle.pop_net.specs.LeafModel.{LeafModel}
-use Rattle.pop_net.specs.Reaction.{Differ}
+use Rattle.pop_leaf.specs.LeafModel.{LeafModel}
+use Rattle.pop_leaf.specs.Reaction.{Differ}
 use Rattle.pres_ast.specs.PredModel.{PredModel}
 use Rattle.cert_base.specs.declared.proof.LeafProof.{LeafProof}
 use Rattle.cert_base.specs.ProofBound.{layers_bound}

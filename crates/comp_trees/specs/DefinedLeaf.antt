@@ -1,8 +1,8 @@
 -- DefinedLeaf: what a call that builds a leaf says of it.
 use Rattle.std.specs.Prelude.{◌≡◌, ◌≤◌, List, ℤ, length, AllPairs}
 use Rattle.pop_io.specs.declared.names.TheConstants.{VARIABLE_LIMIT}
-use Rattle.pop_net.specs.LeafModel.{LeafModel}
-use Rattle.pop_net.specs.Reaction.{Differ}
+use Rattle.pop_leaf.specs.LeafModel.{LeafModel}
+use Rattle.pop_leaf.specs.Reaction.{Differ}
 
 -- there is at least one coefficient, and no more than a net may have variables
 pub record HasInputs (coefs : List ℤ) : Type 0 where

@@ -5,7 +5,7 @@ use Rattle.std.specs.Prelude.{List}
 use Rattle.std.specs.Prelude.{[], ◌∷◌, ◌++◌, map, filter, length, ℤ, pos, negsuc, neg_ℤ, reverse, replicate}
 use Rattle.std.specs.Prelude.{slice_index_or}
 use Rattle.std.specs.List.{range_with_len}
-use Rattle.pop_net.specs.LeafModel.{LeafModel}
+use Rattle.pop_leaf.specs.LeafModel.{LeafModel}
 use Rattle.cert_base.specs.declared.limits.TheConstants.{FACT_LIMIT}
 use Rattle.cert_base.specs.declared.fact.Fact.{Fact}
 use Rattle.cert_base.specs.declared.fact.Fact.TheVariants.{Ge}
@@ -119,8 +119,8 @@ value_mix value opened p =
       alone = value p;
     }
 
--- what a leaf with n leaders has: each helper and each input is a leader, each move puts a leader first, and each leader
--- can meet itself
+-- what a leaf with n leaders has: each helper and each input is a leader, each move puts a leader first, and each
+-- leader can meet itself
 pub record IsLed (leaf : LeafModel) (n : ℕ) : Type 0 where
   pub helpers : All (λ q. q < n) leaf.helpers
   pub leaders : n ≤ length leaf.states

@@ -7,7 +7,7 @@ ghost use Rattle.comp_trees.specs.LeaderTree.{weighed_node, mix_over, mix_by, mi
 use crate::others::company;
 use cert_base::{Node, Row, Term};
 use pop_io::{List, NoMemory};
-use pop_net::Leaf;
+use pop_leaf::Leaf;
 use std::alloc::Global;
 
 /// The most multipliers of a node: a term names its fact by a `u32`.

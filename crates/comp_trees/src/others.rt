@@ -6,7 +6,7 @@ ghost use Rattle.comp_trees.specs.LeaderTree.{company_of};
 
 use cert_base::can_meet;
 use pop_io::NoMemory;
-use pop_net::Leaf;
+use pop_leaf::Leaf;
 use std::alloc::Global;
 
 /// The other states that can meet this one, in ascending order.

@@ -9,7 +9,7 @@ ghost use Rattle.comp_trees.specs.LeaderTree.{no_input_mix, helped_mix, no_leade
 use crate::mixing::{MULTIPLIER_LIMIT, weighed};
 use cert_base::Node;
 use pop_io::{List, NoMemory};
-use pop_net::Leaf;
+use pop_leaf::Leaf;
 use std::alloc::Global;
 
 /// The whole tree, with these nodes at the ends of the leaders' branches, the first leader's first.

@@ -5,7 +5,7 @@ ghost use Rattle.comp_trees.specs.SortedLayers.{leader_kind, sorted_layer};
 
 use cert_base::Layer;
 use pop_io::{List, NoMemory};
-use pop_net::{Leaf, Move};
+use pop_leaf::{Leaf, Move};
 use std::alloc::Global;
 
 /// The kind of a move, with this many leaders.

@@ -2,8 +2,8 @@
 use Rattle.std.proofs.Common.{◌≡◌, ◌⊎◌, inl, inr, ℕ, ◌<◌, ◌≤◌, Bool, List, sym, ap, subst, ◌∙◌, arith}
 use Rattle.std.specs.Prelude.{Some, slice_get}
 use Rattle.std.proofs.lemmas.Bool.{cases_lt}
-use Rattle.pop_net.proofs.Quiet.{All-slice_get}
-use Rattle.pop_net.specs.LeafModel.{LeafModel}
+use Rattle.pop_leaf.proofs.Quiet.{All-slice_get}
+use Rattle.pop_leaf.specs.LeafModel.{LeafModel}
 use Rattle.cert_layers.specs.LayerFaults.{Each, IsFirstFailing}
 use Rattle.cert_sets.specs.declared.fault.SetFault.{SetFault}
 use Rattle.cert_sets.specs.declared.fault.SetFault.TheVariants.{Output, Leaves, Wakes}

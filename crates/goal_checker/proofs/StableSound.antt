@@ -1,11 +1,11 @@
 -- A valid proof with goals shows that the net stably computes the predicate.
 use Rattle.std.proofs.Common.{◌≡◌, ℕ, Bool, true, false, List, length, Some, sym, subst, ◌∙◌}
-use Rattle.pop_net.proofs.Quiet.{All-slice_get}
+use Rattle.pop_leaf.proofs.Quiet.{All-slice_get}
 use Rattle.pres_ast.specs.PredTree.{PredTree}
 use Rattle.pres_ast.specs.PredModel.{PredModel, HasAtoms}
-use Rattle.pop_net.specs.LeafModel.{LeafModel, IsLeaf}
-use Rattle.pop_net.specs.NetModel.{NetModel, IsNet, combined}
-use Rattle.pop_net.specs.InputCrowd.{leaf_input_crowd}
+use Rattle.pop_leaf.specs.LeafModel.{LeafModel, IsLeaf}
+use Rattle.pop_leaf.specs.NetModel.{NetModel, IsNet, combined}
+use Rattle.pop_leaf.specs.InputCrowd.{leaf_input_crowd}
 use Rattle.cert_base.specs.declared.proof.Goal.{Goal}
 use Rattle.cert_base.specs.declared.stable.StablePart.{StablePart}
 use Rattle.cert_base.specs.declared.stable.StablePart.TheVariants.{Silent, Stable}

@@ -1,8 +1,8 @@
 -- Rejections: the first part of a proof with goals that is not valid.
 use Rattle.std.specs.Prelude.{◌≡◌, ℕ, Bool, true, false, length, Some, slice_get}
 use Rattle.pres_ast.specs.PredModel.{PredModel}
-use Rattle.pop_net.specs.LeafModel.{LeafModel}
-use Rattle.pop_net.specs.NetModel.{NetModel}
+use Rattle.pop_leaf.specs.LeafModel.{LeafModel}
+use Rattle.pop_leaf.specs.NetModel.{NetModel}
 use Rattle.cert_base.specs.declared.proof.Goal.{Goal as LeafGoal}
 use Rattle.cert_base.specs.declared.stable.LeafGoals.{LeafGoals}
 use Rattle.cert_base.specs.declared.stable.StablePart.{StablePart}

@@ -1,7 +1,7 @@
 -- StableSound: a valid proof with goals shows that the net stably computes the predicate, by the definitions alone.
 use Rattle.std.specs.Prelude.{◌≡◌, ℕ, length, Some, slice_get}
 use Rattle.pres_ast.specs.PredModel.{PredModel, HasAtoms}
-use Rattle.pop_net.specs.NetModel.{NetModel, IsNet}
+use Rattle.pop_leaf.specs.NetModel.{NetModel, IsNet}
 use Rattle.cert_base.specs.declared.stable.StablePart.{StablePart}
 use Rattle.cert_base.specs.declared.stable.StableProof.{StableProof}
 use Rattle.cert_base.specs.StableProof.{pred_of_part}

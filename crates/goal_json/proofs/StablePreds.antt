@@ -6,7 +6,7 @@ use Rattle.json_shape.specs.Parts.{AreItems}
 use Rattle.json_shape.specs.Shapes.{listed}
 use Rattle.pop_io.specs.declared.names.TheConstants.{VARIABLE_LIMIT}
 use Rattle.pres_ast.specs.PredModel.{HasAtoms}
-use Rattle.pop_net.specs.NetModel.{IsNet}
+use Rattle.pop_leaf.specs.NetModel.{IsNet}
 use Rattle.cert_base.specs.declared.stable.StablePart.{StablePart}
 use Rattle.cert_base.specs.declared.stable.StablePart.TheVariants.{Silent, Stable}
 use Rattle.cert_base.specs.StableProof.{pred_of_part}

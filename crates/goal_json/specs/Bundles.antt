@@ -3,7 +3,7 @@ use Rattle.std.specs.Prelude.{[], codes, length, Result, Ok}
 use Rattle.serde_json.specs.Data.{Data}
 use Rattle.json_shape.specs.Faults.{Fault, ◌>>=◌}
 use Rattle.json_shape.specs.Shapes.{object_at, member_by}
-use Rattle.pop_net.specs.NetModel.{NetModel}
+use Rattle.pop_leaf.specs.NetModel.{NetModel}
 use Rattle.net_json.specs.Examined.{net_at}
 use Rattle.cert_json.specs.Examined.{pred_at}
 use Rattle.goal_json.specs.declared.bundle.StableBundle.{StableBundle}

@@ -6,9 +6,9 @@ use Rattle.std.proofs.lemmas.Option.{slice_get_within}
 use Rattle.pop_net.specs.declared.net.Word.{Word}
 use Rattle.pop_net.specs.LaneWidth.{bits_of, width_for}
 use Rattle.pop_net.specs.Lanes.{digits, lane_size, tuple_of, crowd_of, IsValid, AreValid}
-use Rattle.pop_net.specs.LeafModel.{LeafModel, IsLeaf}
-use Rattle.pop_net.specs.NetModel.{NetModel, Tuple, IsNet, HasStates, is_wide, is_wide_leaf, helpers_of, number_of_helpers, NamesBelow}
-use Rattle.pop_net.specs.Hushed.{hushed}
+use Rattle.pop_leaf.specs.LeafModel.{LeafModel, IsLeaf}
+use Rattle.pop_leaf.specs.NetModel.{NetModel, Tuple, IsNet, HasStates, is_wide, is_wide_leaf, helpers_of, number_of_helpers, NamesBelow}
+use Rattle.pop_leaf.specs.Hushed.{hushed}
 use Rattle.pop_hushed.proofs.Moves.{hushed_formed}
 use Rattle.list_laws.proofs.Options.{item_within, same_value}
 use Rattle.cert_base.specs.declared.proof.LeafProof.{LeafProof}

@@ -1,7 +1,7 @@
 -- HushedNet: the net in which each leaf keeps the moves of its layers alone, and all others are silent.
 use Rattle.std.specs.Prelude.{List, [], ◌∷◌}
-use Rattle.pop_net.specs.LeafModel.{LeafModel}
-use Rattle.pop_net.specs.NetModel.{NetModel}
+use Rattle.pop_leaf.specs.LeafModel.{LeafModel}
+use Rattle.pop_leaf.specs.NetModel.{NetModel}
 use Rattle.cert_base.specs.declared.proof.LeafProof.{LeafProof}
 use Rattle.cert_base.specs.declared.proof.Proof.{Proof}
 use Rattle.cert_sets.specs.Layered.{layered}

@@ -1,8 +1,8 @@
 -- Resting: the crowds in which no move of the layers that an input chooses is possible.
 use Rattle.std.specs.Prelude.{ℕ, List}
-use Rattle.pop_net.specs.NetModel.{NetModel, CrowdModel}
-use Rattle.pop_net.specs.Step.{Step}
-use Rattle.pop_net.specs.Terminal.{IsTerminal}
+use Rattle.pop_leaf.specs.NetModel.{NetModel, CrowdModel}
+use Rattle.pop_leaf.specs.Step.{Step}
+use Rattle.pop_leaf.specs.Terminal.{IsTerminal}
 use Rattle.cert_base.specs.declared.stable.StableProof.{StableProof}
 use Rattle.goal_rest.specs.Chosen.{proof_at}
 use Rattle.goal_rest.specs.HushedNet.{hushed_net}

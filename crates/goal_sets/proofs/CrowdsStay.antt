@@ -3,14 +3,14 @@ use Rattle.std.proofs.Common.{◌⊎◌, inl, inr, ℕ, List, [], ◌∷◌, ◌
 use Rattle.std.specs.Prelude.{Contains}
 use Rattle.std.specs.List.Sorted.{IsPermutation}
 use Rattle.std.proofs.lemmas.List.Sorted.{IsPermutation-sym, IsPermutation-trans, All-permutation}
-use Rattle.pop_net.specs.declared.leaf.Move.{Move}
-use Rattle.pop_net.specs.LeafModel.{LeafModel}
-use Rattle.pop_net.specs.Step.{LeafMove, LeafChange, LeafStep}
+use Rattle.pop_leaf.specs.declared.leaf.Move.{Move}
+use Rattle.pop_leaf.specs.LeafModel.{LeafModel}
+use Rattle.pop_leaf.specs.Step.{LeafMove, LeafChange, LeafStep}
 use Rattle.pop_net.proofs.Permutations.{meets_permuted, terminal_permuted}
 use Rattle.cert_base.specs.GoalEnds.{IsWithin}
 use Rattle.cert_base.proofs.Dead.{IsEnabledIn}
 use Rattle.cert_layers.proofs.Termination.{leads-append}
-use Rattle.pop_net.specs.Hushed.{hushed}
+use Rattle.pop_leaf.specs.Hushed.{hushed}
 use Rattle.pop_hushed.specs.Laws.{IsKeptMove}
 use Rattle.pop_hushed.proofs.Kept.{listed_cases}
 use Rattle.goal_sets.specs.Stays.{escapes, IsGuarded, SleepIn}

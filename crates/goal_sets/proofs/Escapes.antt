@@ -5,7 +5,7 @@ use Rattle.std.specs.List.{range_with_len}
 use Rattle.std.proofs.lemmas.List.FromFn.{length-range_with_len, get_or-range_with_len}
 use Rattle.std.proofs.lemmas.Option.{slice_get_within}
 use Rattle.list_laws.proofs.Lists.{has_first, has_later}
-use Rattle.pop_net.specs.LeafModel.{LeafModel}
+use Rattle.pop_leaf.specs.LeafModel.{LeafModel}
 use Rattle.cert_layers.specs.Search.{some_move}
 use Rattle.cert_layers.proofs.NotLower.{some_move-true}
 use Rattle.goal_sets.specs.Stays.{leads_out, escapes}

@@ -3,10 +3,10 @@ use Rattle.std.proofs.Common.{◌≡◌, ◌⊎◌, inl, inr, ℕ, ◌+◌, ◌-
 use Rattle.std.specs.Prelude.{slice_set, Contains}
 use Rattle.std.proofs.lemmas.Bool.{and_from, and_parts, cases_Bool}
 use Rattle.std.proofs.lemmas.List.Elements.{All-set}
-use Rattle.pop_net.specs.declared.leaf.Move.{Move}
-use Rattle.pop_net.specs.LeafModel.{LeafModel, pre, post}
-use Rattle.pop_net.specs.Step.{Follows, LeafMove, LeafStep}
-use Rattle.pop_net.proofs.Quiet.{All-slice_get, set_same}
+use Rattle.pop_leaf.specs.declared.leaf.Move.{Move}
+use Rattle.pop_leaf.specs.LeafModel.{LeafModel, pre, post}
+use Rattle.pop_leaf.specs.Step.{Follows, LeafMove, LeafStep}
+use Rattle.pop_leaf.proofs.Quiet.{All-slice_get, set_same}
 use Rattle.cert_base.specs.FactsAndCases.{is_in}
 use Rattle.cert_base.specs.GoalEnds.{IsWithin}
 use Rattle.cert_base.proofs.Agents.{agents_of, enabled_test-true, one_agent}

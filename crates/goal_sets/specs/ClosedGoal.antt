@@ -1,9 +1,9 @@
 -- ClosedGoal: crowds of a goal that no step leaves, and that are always reached.
 use Rattle.std.specs.Prelude.{◌≡◌, ℕ, ◌*◌, Bool, false, List, length, All, slice_index_or}
 use Rattle.std.specs.List.Sorted.{IsPermutation}
-use Rattle.pop_net.specs.LeafModel.{LeafModel}
-use Rattle.pop_net.specs.Step.{LeafStep}
-use Rattle.pop_net.specs.Reachable.{Reachable, ReachedWithin}
+use Rattle.pop_leaf.specs.LeafModel.{LeafModel}
+use Rattle.pop_leaf.specs.Step.{LeafStep}
+use Rattle.pop_leaf.specs.Reachable.{Reachable, ReachedWithin}
 use Rattle.goal_sets.specs.Reached.{IsAtGoal}
 
 -- what holds of the crowds of a goal from a start

@@ -1,8 +1,8 @@
 -- Laws: which crowds of a goal no step leaves.
 use Rattle.std.specs.Prelude.{ℕ, List, Contains}
 use Rattle.std.specs.List.Sorted.{IsPermutation}
-use Rattle.pop_net.specs.LeafModel.{LeafModel}
-use Rattle.pop_net.specs.Step.{LeafStep}
+use Rattle.pop_leaf.specs.LeafModel.{LeafModel}
+use Rattle.pop_leaf.specs.Step.{LeafStep}
 use Rattle.cert_base.specs.GoalEnds.{IsWithin}
 use Rattle.goal_sets.specs.Stays.{SleepIn, IsGuarded}
 use Rattle.goal_sets.specs.Reached.{IsDeadFor, IsGoalEnd, IsHeld, IsAtGoal}

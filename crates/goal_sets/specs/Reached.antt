@@ -2,11 +2,11 @@
 use Rattle.std.specs.Prelude.{ℕ, Bool, ◌⊎◌, List, Contains}
 use Rattle.std.specs.List.Sorted.{IsPermutation}
 use Rattle.pres_ast.specs.PredTree.{PredTree}
-use Rattle.pop_net.specs.LeafModel.{LeafModel}
-use Rattle.pop_net.specs.Step.{LeafStep}
-use Rattle.pop_net.specs.Reachable.{Reachable}
-use Rattle.pop_net.specs.Terminal.{IsTerminal}
-use Rattle.pop_net.specs.Hushed.{hushed}
+use Rattle.pop_leaf.specs.LeafModel.{LeafModel}
+use Rattle.pop_leaf.specs.Step.{LeafStep}
+use Rattle.pop_leaf.specs.Reachable.{Reachable}
+use Rattle.pop_leaf.specs.Terminal.{IsTerminal}
+use Rattle.pop_leaf.specs.Hushed.{hushed}
 use Rattle.cert_base.specs.GoalEnds.{IsWithin, EndsInside}
 use Rattle.goal_sets.specs.Stays.{escapes, IsGuarded}
 

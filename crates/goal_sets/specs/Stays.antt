@@ -2,8 +2,8 @@
 use Rattle.std.specs.Prelude.{◌≡◌, ℕ, ◌<◌, true, false, Bool, not, ◌&&◌, ◌⊎◌, List, length, Some, slice_get}
 use Rattle.std.specs.Prelude.{filter, Contains}
 use Rattle.std.specs.List.{range_with_len}
-use Rattle.pop_net.specs.declared.leaf.Move.{Move}
-use Rattle.pop_net.specs.LeafModel.{LeafModel, silent_move, pre, post}
+use Rattle.pop_leaf.specs.declared.leaf.Move.{Move}
+use Rattle.pop_leaf.specs.LeafModel.{LeafModel, silent_move, pre, post}
 use Rattle.cert_base.specs.FactsAndCases.{is_in}
 use Rattle.cert_base.specs.ValidLayers.{IsEnabledBefore}
 use Rattle.cert_layers.specs.LayerFaults.{Each}
@@ -33,8 +33,8 @@ pub record WasPossible (leaf : LeafModel) (moves : List ℕ) (t u : Move) : Type
   pub inside : IsKeptMove leaf moves number taken
   pub enabled : IsEnabledBefore taken t u
 
--- the move with number n isn't one of these moves and takes two states of the set: it doesn't wake the one with number m
--- whose other agent, if it has one besides, is in the set
+-- the move with number n isn't one of these moves and takes two states of the set: it doesn't wake the one with number
+-- m whose other agent, if it has one besides, is in the set
 abbrev pub SleepsFor : LeafModel → List ℕ → List ℕ → ℕ → ℕ → Type 0
 SleepsFor leaf set moves n m =
     (t u : Move) → slice_get leaf.moves n ≡ Some t → silent_move t ≡ false → takes_within set t ≡ true

@@ -4,7 +4,7 @@ use Rattle.std.specs.Prelude.{Result, Ok, Err, All}
 use Rattle.std.proofs.lemmas.List.Elements.{All-map, All-weaker}
 use Rattle.pop_io.specs.declared.failure.Failure.{Failure}
 use Rattle.pop_net.specs.declared.net.Word.{Word}
-use Rattle.pop_net.specs.NetModel.{NetModel, CrowdModel, IsTuple, IsNet}
+use Rattle.pop_leaf.specs.NetModel.{NetModel, CrowdModel, IsTuple, IsNet}
 use Rattle.pop_net.specs.Lanes.{tuple_of, crowd_of, IsValid, AreValid}
 use Rattle.pop_net.proofs.Packing.{is_tuple}
 use Rattle.cert_base.specs.declared.stable.StableProof.{StableProof}

@@ -6,14 +6,14 @@ use Rattle.std.proofs.lemmas.List.Sorted.{IsPermutation-refl}
 use Rattle.std.proofs.lemmas.Option.{slice_get-map}
 use Rattle.pres_ast.specs.PredModel.{PredModel}
 use Rattle.pres_ast.specs.PredicateValue.{predicate_value}
-use Rattle.pop_net.specs.LeafModel.{LeafModel}
-use Rattle.pop_net.specs.NetModel.{NetModel, Tuple, CrowdModel, IsTuple, IsNet, number_of_helpers}
-use Rattle.pop_net.specs.InputCrowd.{IsInput, input_crowd, leaf_input_crowd}
-use Rattle.pop_net.specs.Step.{LeafStep, Step}
-use Rattle.pop_net.specs.Reachable.{Reachable}
+use Rattle.pop_leaf.specs.LeafModel.{LeafModel}
+use Rattle.pop_leaf.specs.NetModel.{NetModel, Tuple, CrowdModel, IsTuple, IsNet, number_of_helpers}
+use Rattle.pop_leaf.specs.InputCrowd.{IsInput, input_crowd, leaf_input_crowd}
+use Rattle.pop_leaf.specs.Step.{LeafStep, Step}
+use Rattle.pop_leaf.specs.Reachable.{Reachable}
 use Rattle.pop_net.proofs.Lifting.{terminal_component}
 use Rattle.pop_net.proofs.Projection.{component, input_component, reachable_component}
-use Rattle.pop_net.proofs.Quiet.{All-slice_get}
+use Rattle.pop_leaf.proofs.Quiet.{All-slice_get}
 use Rattle.pop_net.proofs.Tuples.{input_tuples, reachable_tuples}
 use Rattle.pop_hushed.proofs.Crowds.{are_hushed}
 use Rattle.cert_base.specs.declared.stable.LeafGoals.{LeafGoals}

@@ -2,10 +2,10 @@
 use Rattle.std.specs.Prelude.{ℕ, ◌≤◌, List, length}
 use Rattle.pres_ast.specs.PredModel.{PredModel}
 use Rattle.pres_ast.specs.PredicateValue.{predicate_value}
-use Rattle.pop_net.specs.NetModel.{NetModel, CrowdModel, IsNet, number_of_helpers}
-use Rattle.pop_net.specs.InputCrowd.{IsInput, input_crowd}
-use Rattle.pop_net.specs.Step.{Step}
-use Rattle.pop_net.specs.Reachable.{Reachable}
+use Rattle.pop_leaf.specs.NetModel.{NetModel, CrowdModel, IsNet, number_of_helpers}
+use Rattle.pop_leaf.specs.InputCrowd.{IsInput, input_crowd}
+use Rattle.pop_leaf.specs.Step.{Step}
+use Rattle.pop_leaf.specs.Reachable.{Reachable}
 use Rattle.cert_base.specs.declared.stable.StableProof.{StableProof}
 use Rattle.cert_base.specs.ProofBound.{proof_bound}
 use Rattle.net_goals.specs.OutputStable.{IsOutputStable}

@@ -1,6 +1,6 @@
 //! Settling a crowd by the goals that its input chooses, to outputs that are right for ever.
 //! It stands on `pop_settle`, `goal_checker`, and `goal_rest`, which has the net of the chosen layers.
-//! The layer above uses: `settle_goals` gives the settlement by the chosen layers; `settlements_rest` says where it ends.
+//! The layer above uses: `settle_goals` gives the settlement by the chosen layers, `settlements_rest` where it ends.
 #![tactic(auto)]
 
 mod law;

@@ -11,8 +11,8 @@ use pop_net::Net;
 use pop_settle::{SettleFault, Settled, settle};
 use std::alloc::Global;
 
-/// Takes the moves of each leaf's layers, of a leaf with goals those for its predicate's value at the counts, until none
-/// can be taken.
+/// Takes the moves of each leaf's layers, of a leaf with goals those for its predicate's value at the counts, until
+/// none can be taken.
 pub fn settle_goals(
     alloc: Global,
     net: &Net,

@@ -7,7 +7,7 @@ ghost use Rattle.cert_sets.specs.SetFaults.{AreSetsWithin};
 use cert_base::Layer;
 use cert_goals::{SetFault, check_sets, check_some_layers};
 use pop_io::{Failure, List};
-use pop_net::Leaf;
+use pop_leaf::Leaf;
 use sample_nets::{leaf_of, list, step};
 use std::alloc::Global;
 

@@ -4,9 +4,9 @@ use Rattle.std.specs.Prelude.{◌↔◌, IfSome, is_some, is_none, option_map, i
 use Rattle.std.specs.List.{range_with_len, list_all}
 use Rattle.std.proofs.lemmas.List.Elements.{All-head, All-tail, All-nil, All-cons, All-contains}
 use Rattle.std.proofs.lemmas.Bool.{cond-true, cond-false, cases_lt, false≢true, and_parts, and_from}
-use Rattle.pop_net.specs.NetModel.{NetModel, Tuple, CrowdModel, IsTuple, output_of}
-use Rattle.pop_net.specs.Step.{Step}
-use Rattle.pop_net.specs.Terminal.{IsTerminal}
+use Rattle.pop_leaf.specs.NetModel.{NetModel, Tuple, CrowdModel, IsTuple, output_of}
+use Rattle.pop_leaf.specs.Step.{Step}
+use Rattle.pop_leaf.specs.Terminal.{IsTerminal}
 use Rattle.pop_crowd.specs.Replay.{changes}
 use Rattle.terminal_test.specs.Pairs.{IsEnabled, IsLeastPair}
 use Rattle.terminal_test.specs.Agreement.{AllOutput, OutputsDiffer}

@@ -2,7 +2,7 @@
 use Rattle.std.specs.Prelude.{ℕ, ◌+◌, ◌-◌, Bool, true, false, not, [], ◌∷◌, length}
 use Rattle.std.specs.Prelude.{Option, Some, None, is_none, option_map, if◌then◌else◌}
 use Rattle.std.specs.List.{list_all, range_with_len}
-use Rattle.pop_net.specs.NetModel.{NetModel, CrowdModel, output_of}
+use Rattle.pop_leaf.specs.NetModel.{NetModel, CrowdModel, output_of}
 use Rattle.pop_crowd.specs.Replay.{changes}
 use Rattle.pop_words.specs.Options.{first_given}
 use Rattle.journal_text.specs.declared.last.Last.{Last}

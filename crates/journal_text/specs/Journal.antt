@@ -1,7 +1,7 @@
 -- Journals: the lines that record a run, from its first line to the last.
 use Rattle.std.specs.Prelude.{ℕ, ◌+◌, List, [], ◌∷◌, ◌++◌, map, flat_map, codes, decimal, if◌then◌else◌}
 use Rattle.pop_lines.specs.Lines.{ended}
-use Rattle.pop_net.specs.NetModel.{NetModel, CrowdModel}
+use Rattle.pop_leaf.specs.NetModel.{NetModel, CrowdModel}
 use Rattle.pop_crowd.specs.declared.crowd.Meeting.{Meeting}
 use Rattle.pop_crowd.specs.Tally.{crowd_lines}
 use Rattle.run_spec.specs.declared.kind.RunKind.{RunKind}

@@ -1,6 +1,6 @@
 //! The text of a journal: the lines that record a run, from its first to its last, and what may be wrong with them.
 //! It stands on `terminal_test`, `pop_lines` and `pop_words`.
-//! The layer above uses: `push_run_line`, `push_round` and `push_end` add exactly the lines that `specs/Journal.antt` has.
+//! The layer above uses: `push_run_line`, `push_round` and `push_end` add exactly the lines of `specs/Journal.antt`.
 #![tactic(auto)]
 
 mod fault;

@@ -8,10 +8,10 @@ use Rattle.std.proofs.lemmas.List.Sorted.{IsPermutation-refl, IsPermutation-sym,
 use Rattle.std.proofs.lemmas.Option.{slice_get_within, slice_get-map, same_Some}
 use Rattle.pres_ast.specs.PredTree.{PredTree}
 use Rattle.pres_ast.specs.PredicateValue.{predicate_value}
-use Rattle.pop_net.specs.LeafModel.{LeafModel, IsLeaf}
-use Rattle.pop_net.specs.NetModel.{NetModel, CrowdModel, IsTuple, IsNet, number_of_helpers}
-use Rattle.pop_net.specs.InputCrowd.{IsInput, leaf_input_crowd}
-use Rattle.pop_net.specs.Step.{LeafChange, LeafStep}
+use Rattle.pop_leaf.specs.LeafModel.{LeafModel, IsLeaf}
+use Rattle.pop_leaf.specs.NetModel.{NetModel, CrowdModel, IsTuple, IsNet, number_of_helpers}
+use Rattle.pop_leaf.specs.InputCrowd.{IsInput, leaf_input_crowd}
+use Rattle.pop_leaf.specs.Step.{LeafChange, LeafStep}
 use Rattle.pop_net.proofs.Permutations.{terminal_permuted}
 use Rattle.pop_net.proofs.Projection.{component}
 use Rattle.cert_base.specs.declared.layer.Layer.{Layer}

@@ -5,11 +5,11 @@ use Rattle.std.specs.List.Sorted.{IsPermutation}
 use Rattle.std.proofs.lemmas.List.Elements.{All-get_or, All-map}
 use Rattle.std.proofs.lemmas.List.Sorted.{IsPermutation-refl, All-permutation, length_permutation}
 use Rattle.std.proofs.lemmas.Option.{slice_get_within, slice_get-get_or, get_or_from_slice_get}
-use Rattle.pop_net.specs.NetModel.{NetModel, Tuple, CrowdModel, IsTuple, number_of_helpers}
-use Rattle.pop_net.specs.InputCrowd.{IsInput, input_crowd}
-use Rattle.pop_net.specs.Step.{TupleChange, Meets}
-use Rattle.pop_net.specs.Reachable.{Leads}
-use Rattle.pop_net.proofs.Quiet.{All-slice_get}
+use Rattle.pop_leaf.specs.NetModel.{NetModel, Tuple, CrowdModel, IsTuple, number_of_helpers}
+use Rattle.pop_leaf.specs.InputCrowd.{IsInput, input_crowd}
+use Rattle.pop_leaf.specs.Step.{TupleChange, Meets}
+use Rattle.pop_leaf.specs.Reachable.{Leads}
+use Rattle.pop_leaf.proofs.Quiet.{All-slice_get}
 use Rattle.pop_net.proofs.Tuples.{meets_length, step_tuples, input_tuples}
 use Rattle.pop_fair.specs.Executions.{OccursInfinitelyOften, IsExecution, IsFair}
 use Rattle.pop_fair.specs.StablyComputes.{IsSameMap, IsSameMultiset, MultisetStep, IsExecutionFrom, Reacts}

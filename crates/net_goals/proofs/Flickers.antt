@@ -5,9 +5,9 @@ use Rattle.std.proofs.lemmas.List.Elements.{All-nil, All-cons}
 use Rattle.std.proofs.lemmas.List.Sorted.{All-permutation}
 use Rattle.std.proofs.lemmas.Option.{same_Some}
 use Rattle.pop_net.specs.ExampleNets.{move}
-use Rattle.pop_net.specs.LeafModel.{LeafModel, IsLeaf}
-use Rattle.pop_net.specs.NetModel.{IsNet}
-use Rattle.pop_net.proofs.LeafFaults.{unbroken_leaf}
+use Rattle.pop_leaf.specs.LeafModel.{LeafModel, IsLeaf}
+use Rattle.pop_leaf.specs.NetModel.{IsNet}
+use Rattle.pop_leaf.proofs.LeafFaults.{unbroken_leaf}
 use Rattle.pop_net.proofs.NetFaults.{unbroken_net}
 use Rattle.pop_net.proofs.OneLeaf.{one_leaf_step}
 use Rattle.cert_base.proofs.InRange.{leads_in_range, end_in_range}

@@ -10,13 +10,13 @@ use Rattle.std.proofs.lemmas.List.Sorted.{All-permutation}
 use Rattle.std.proofs.lemmas.Option.{slice_get_within, slice_get-get_or}
 use Rattle.pres_ast.specs.PredTree.{PredTree}
 use Rattle.pres_ast.specs.PredicateValue.{predicate_value}
-use Rattle.pop_net.specs.LeafModel.{LeafModel}
-use Rattle.pop_net.specs.NetModel.{NetModel, Tuple, CrowdModel, IsTuple, IsNet, state_of, number_of_helpers}
-use Rattle.pop_net.specs.InputCrowd.{IsInput, input_crowd, leaf_input_crowd}
-use Rattle.pop_net.specs.Step.{Meets, Step, LeafStep}
-use Rattle.pop_net.specs.Reachable.{Leads, ReachedWithin, Reachable}
+use Rattle.pop_leaf.specs.LeafModel.{LeafModel}
+use Rattle.pop_leaf.specs.NetModel.{NetModel, Tuple, CrowdModel, IsTuple, IsNet, state_of, number_of_helpers}
+use Rattle.pop_leaf.specs.InputCrowd.{IsInput, input_crowd, leaf_input_crowd}
+use Rattle.pop_leaf.specs.Step.{Meets, Step, LeafStep}
+use Rattle.pop_leaf.specs.Reachable.{Leads, ReachedWithin, Reachable}
 use Rattle.pop_net.proofs.Projection.{component, slice_get-component, step_component, input_component, reachable_component}
-use Rattle.pop_net.proofs.Quiet.{All-slice_get}
+use Rattle.pop_leaf.proofs.Quiet.{All-slice_get}
 use Rattle.pop_net.proofs.Tuples.{leads_length, step_tuples}
 use Rattle.pop_fair.specs.OutputStable.{AllOutput, IsGoal, StablyOutputs}
 use Rattle.pop_fair.proofs.Reached.{AreChanges, IsReached, reached_from, way_to, tuples_of, reached_along}

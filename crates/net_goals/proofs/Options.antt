@@ -4,12 +4,12 @@ use Rattle.std.specs.Prelude.{Some, slice_get, flat_map, All, Contains}
 use Rattle.std.proofs.lemmas.Bool.{eq-eqb, eqb-true, not-true}
 use Rattle.std.proofs.lemmas.List.Elements.{All-nil, All-cons, All-append, All-map, Contains-append_left, Contains-append_right}
 use Rattle.std.proofs.lemmas.Option.{slice_get_within, slice_get-get_or, get_or_from_slice_get, same_Some}
-use Rattle.pop_net.specs.declared.leaf.Move.{Move}
-use Rattle.pop_net.specs.LeafModel.{LeafModel, silent_move}
-use Rattle.pop_net.specs.NetModel.{NetModel, Tuple, IsTuple, state_of}
-use Rattle.pop_net.specs.Step.{Follows, LeafMove, LeafChange, TupleChange}
-use Rattle.pop_net.specs.Reaction.{reaction}
-use Rattle.pop_net.proofs.Reactions.{and_left, and_right}
+use Rattle.pop_leaf.specs.declared.leaf.Move.{Move}
+use Rattle.pop_leaf.specs.LeafModel.{LeafModel, silent_move}
+use Rattle.pop_leaf.specs.NetModel.{NetModel, Tuple, IsTuple, state_of}
+use Rattle.pop_leaf.specs.Step.{Follows, LeafMove, LeafChange, TupleChange}
+use Rattle.pop_leaf.specs.Reaction.{reaction}
+use Rattle.pop_leaf.proofs.Reactions.{and_left, and_right}
 use Rattle.pop_fair.specs.StablyComputes.{Reacts}
 use Rattle.pop_fair.specs.Synchronous.{LeafReacts, AllReact}
 use Rattle.list_laws.proofs.Lists.{has_first, has_later, has_map}

@@ -5,7 +5,7 @@ use Rattle.std.specs.List.{swap}
 use Rattle.std.specs.List.Sorted.{apply_swaps, SwapsInRange, IsPermutation}
 use Rattle.std.proofs.lemmas.List.{map-set, length-map}
 use Rattle.std.proofs.Math.ListN.{get_or-map}
-use Rattle.pop_net.specs.NetModel.{CrowdModel, state_of}
+use Rattle.pop_leaf.specs.NetModel.{CrowdModel, state_of}
 use Rattle.pop_net.proofs.Projection.{component}
 
 module _ {A B : Type 0} (f : A → B) where

@@ -1,6 +1,6 @@
 -- A net whose leaves have goals is stably right.
 use Rattle.std.proofs.Common.{ℕ, List}
-use Rattle.pop_net.specs.Step.{TupleChange}
+use Rattle.pop_leaf.specs.Step.{TupleChange}
 use Rattle.pop_fair.specs.StablyComputes.{Reacts}
 use Rattle.pop_fair.specs.Synchronous.{AllReact}
 use Rattle.pop_fair.proofs.Reached.{reacts_changes}

@@ -2,8 +2,8 @@
 use Rattle.std.proofs.Common.{◌≡◌, ℕ, Bool, true, false, ◌&&◌, ◌==◌, List, [], ◌∷◌, refl, ap, ◌∙◌}
 use Rattle.std.specs.Prelude.{Decides}
 use Rattle.std.proofs.lemmas.Bool.{eq-eqb, eqb-true}
-use Rattle.pop_net.specs.NetModel.{CrowdModel}
-use Rattle.pop_net.proofs.Reactions.{and_left, and_right}
+use Rattle.pop_leaf.specs.NetModel.{CrowdModel}
+use Rattle.pop_leaf.proofs.Reactions.{and_left, and_right}
 use Rattle.list_laws.proofs.Lists.{heads, tails}
 
 both : (a b : Bool) → a ≡ true → b ≡ true → a && b ≡ true

@@ -5,7 +5,7 @@ use Rattle.std.specs.Prelude.{Decides, Some, slice_get, Contains}
 use Rattle.std.proofs.Math.Nat as nat
 use Rattle.std.proofs.lemmas.Nat.{mod-mul-add}
 use Rattle.std.proofs.lemmas.List.{get_or_default}
-use Rattle.pop_net.specs.Reachable.{Leads}
+use Rattle.pop_leaf.specs.Reachable.{Leads}
 use Rattle.pop_fair.specs.Executions.{OccursInfinitelyOften, IsFair}
 
 module _ {A : Type 0} (same : A → A → Bool) (tells : (c d : A) → Decides (same c d) (c ≡ d)) (next : A → List A) where

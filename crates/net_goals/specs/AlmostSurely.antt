@@ -1,8 +1,8 @@
--- AlmostSurely: meetings of uniformly random pairs bring the outputs to rest with probability 1, and how soon. All runs of
--- l meetings are equally likely. So a bound on how many runs don't do it is one on the probability.
+-- AlmostSurely: meetings of uniformly random pairs bring the outputs to rest with probability 1, and how soon. All runs
+-- of l meetings are equally likely. So a bound on how many runs don't do it is one on the probability.
 use Rattle.std.specs.Prelude.{◌≡◌, ◌⊎◌, ℕ, zero, suc, ◌+◌, ◌*◌, ◌-◌, ◌^◌, ◌<◌, ◌≤◌, Bool, List, length, Contains}
 use Rattle.pres_ast.specs.PredTree.{PredTree}
-use Rattle.pop_net.specs.NetModel.{NetModel, CrowdModel}
+use Rattle.pop_leaf.specs.NetModel.{NetModel, CrowdModel}
 use Rattle.pop_random.specs.UniformRuns.{after_run}
 use Rattle.pop_random.specs.RandomMeetings.{pairs, runs, run_count, meet}
 use Rattle.pop_random.specs.ComputesAlmostSurely.{SettleOnTheWay}
@@ -23,8 +23,8 @@ sum_of_shares few n (suc l) = (sum_of_shares few n l + few l) * n
 abbrev pub LeadsToOutput : NetModel → Bool → CrowdModel → List (ℕ × ℕ) → Type 0
 LeadsToOutput net value crowd run = IsOutputStable net value (after_run (meet net) run crowd)
 
--- random meetings go on at a crowd of n agents, T of them before the outputs have come to rest; k meetings per agent are
--- k * n
+-- random meetings go on at a crowd of n agents, T of them before the outputs have come to rest; k meetings per agent
+-- are k * n
 pub record RestsAlmostSurely (net : NetModel) (value : Bool) (k : ℕ) (crowd : CrowdModel) : Type 0 where
   -- there are c ^ m runs of m * k meetings per agent, with c = run_count k n
   pub count : (m : ℕ) → length (runs (length crowd) (m * (k * length crowd))) ≡ run_count k (length crowd) ^ m

@@ -1,8 +1,8 @@
 -- AnyNet: fair executions of any net, whether it comes to rest or not.
 use Rattle.std.specs.Prelude.{ℕ, List, length}
-use Rattle.pop_net.specs.NetModel.{NetModel, CrowdModel, number_of_helpers}
-use Rattle.pop_net.specs.InputCrowd.{IsInput}
-use Rattle.pop_net.specs.Step.{Step}
+use Rattle.pop_leaf.specs.NetModel.{NetModel, CrowdModel, number_of_helpers}
+use Rattle.pop_leaf.specs.InputCrowd.{IsInput}
+use Rattle.pop_leaf.specs.Step.{Step}
 use Rattle.pop_fair.specs.Executions.{IsFair}
 use Rattle.pop_fair.specs.StablyComputes.{Relation, IsExecutionFrom, IsSameMap, IsSameMultiset, MultisetStep}
 use Rattle.pop_fair.specs.StablyComputes.{MeetingStep}

@@ -2,11 +2,11 @@
 -- each look says yes.
 use Rattle.std.specs.Prelude.{[], ◌∷◌, true, pos}
 use Rattle.pres_ast.specs.PredTree.{PredTree, LessThan}
-use Rattle.pop_net.specs.declared.net.Item.TheVariants.{Leaf}
+use Rattle.pop_leaf.specs.declared.item.Item.TheVariants.{Leaf}
 use Rattle.pop_net.specs.ExampleNets.{move}
-use Rattle.pop_net.specs.LeafModel.{LeafModel}
-use Rattle.pop_net.specs.NetModel.{NetModel}
-use Rattle.pop_net.specs.Step.{Step}
+use Rattle.pop_leaf.specs.LeafModel.{LeafModel}
+use Rattle.pop_leaf.specs.NetModel.{NetModel}
+use Rattle.pop_leaf.specs.Step.{Step}
 use Rattle.net_goals.specs.StablyRight.{IsStablyRight}
 
 -- the states p and q

@@ -1,15 +1,16 @@
--- Kinds: two ways in which a leaf comes to rest. It falls silent, or it comes to sets of states that agents don't leave.
+-- Kinds: two ways in which a leaf comes to rest. It falls silent, or it comes to sets of states that agents don't
+-- leave.
 use Rattle.std.specs.Prelude.{◌≡◌, ℕ, ◌*◌, max, Bool, true, false, if◌then◌else◌, List, length, map, Some}
 use Rattle.std.specs.Prelude.{slice_get}
 use Rattle.std.specs.List.Sorted.{IsPermutation}
 use Rattle.pres_ast.specs.PredTree.{PredTree}
 use Rattle.pres_ast.specs.PredicateValue.{predicate_value}
-use Rattle.pop_net.specs.LeafModel.{LeafModel}
-use Rattle.pop_net.specs.NetModel.{NetModel}
-use Rattle.pop_net.specs.InputCrowd.{leaf_input_crowd, IsInput}
-use Rattle.pop_net.specs.Step.{LeafStep}
-use Rattle.pop_net.specs.Reachable.{Reachable, ReachedWithin}
-use Rattle.pop_net.specs.Terminal.{IsTerminal}
+use Rattle.pop_leaf.specs.LeafModel.{LeafModel}
+use Rattle.pop_leaf.specs.NetModel.{NetModel}
+use Rattle.pop_leaf.specs.InputCrowd.{leaf_input_crowd, IsInput}
+use Rattle.pop_leaf.specs.Step.{LeafStep}
+use Rattle.pop_leaf.specs.Reachable.{Reachable, ReachedWithin}
+use Rattle.pop_leaf.specs.Terminal.{IsTerminal}
 use Rattle.cert_base.specs.Ends.{EndsRight}
 use Rattle.goal_sets.specs.Reached.{IsAtGoal}
 use Rattle.goal_sets.specs.ClosedGoal.{IsClosedGoal, ComesToGoal}

@@ -1,8 +1,8 @@
 -- Laws: leaves that come to rest, each in its way, make a net that is stably right.
 use Rattle.std.specs.Prelude.{ℕ, true, false, List}
 use Rattle.pres_ast.specs.PredTree.{PredTree}
-use Rattle.pop_net.specs.LeafModel.{LeafModel, IsLeaf}
-use Rattle.pop_net.specs.NetModel.{NetModel, IsNet}
+use Rattle.pop_leaf.specs.LeafModel.{LeafModel, IsLeaf}
+use Rattle.pop_leaf.specs.NetModel.{NetModel, IsNet}
 use Rattle.cert_base.specs.declared.layer.Layer.{Layer}
 use Rattle.cert_base.specs.ProofBound.{layers_bound}
 use Rattle.cert_base.specs.ValidLayers.{ValidLayers}

@@ -4,11 +4,11 @@ use Rattle.std.specs.Prelude.{slice_index_or}
 use Rattle.std.specs.List.Sorted.{IsPermutation}
 use Rattle.pres_ast.specs.PredTree.{PredTree}
 use Rattle.pres_ast.specs.PredicateValue.{predicate_value}
-use Rattle.pop_net.specs.LeafModel.{LeafModel}
-use Rattle.pop_net.specs.NetModel.{NetModel, combined}
-use Rattle.pop_net.specs.InputCrowd.{leaf_input_crowd, IsInput}
-use Rattle.pop_net.specs.Step.{LeafStep}
-use Rattle.pop_net.specs.Reachable.{Reachable, ReachedWithin}
+use Rattle.pop_leaf.specs.LeafModel.{LeafModel}
+use Rattle.pop_leaf.specs.NetModel.{NetModel, combined}
+use Rattle.pop_leaf.specs.InputCrowd.{leaf_input_crowd, IsInput}
+use Rattle.pop_leaf.specs.Step.{LeafStep}
+use Rattle.pop_leaf.specs.Reachable.{Reachable, ReachedWithin}
 use Rattle.cert_base.specs.ValidProof.{trees}
 
 -- a set of a leaf's crowds, in which its outputs have come to rest at the value

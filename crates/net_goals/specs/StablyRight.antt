@@ -1,9 +1,9 @@
 -- StablyRight: a net whose outputs come to rest at a predicate's value, though its agents may go on changing.
 use Rattle.std.specs.Prelude.{ℕ}
 use Rattle.pres_ast.specs.PredTree.{PredTree}
-use Rattle.pop_net.specs.NetModel.{NetModel}
-use Rattle.pop_net.specs.Step.{Step}
-use Rattle.pop_net.specs.Reaction.{IsSingle}
+use Rattle.pop_leaf.specs.NetModel.{NetModel}
+use Rattle.pop_leaf.specs.Step.{Step}
+use Rattle.pop_leaf.specs.Reaction.{IsSingle}
 use Rattle.pop_fair.specs.StablyComputes.{MeetingStep}
 use Rattle.pop_fair.specs.Synchronous.{SynchronousStep}
 use Rattle.pop_fair.specs.OutputStable.{StablyOutputs}

@@ -8,8 +8,8 @@ use Rattle.json_shape.specs.declared.fault.FormatFault.TheVariants.{Broken, NoMe
 use Rattle.json_shape.specs.Faults.{Fault, ◌>>=◌, Says, FailsRead}
 use Rattle.json_shape.specs.Paths.{item_path}
 use Rattle.json_shape.proofs.FaultLemmas.{Fails-said}
-use Rattle.pop_net.specs.declared.net.Item.{Item}
-use Rattle.pop_net.specs.NetModel.{after_item, after_items, depth_operators}
+use Rattle.pop_leaf.specs.declared.item.Item.{Item}
+use Rattle.pop_leaf.specs.NetModel.{after_item, after_items, depth_operators}
 use Rattle.pop_net.specs.NetFaults.{are_low}
 use Rattle.net_json.specs.Examined.{operand_at, open_depths, item_at, combine_item}
 use Rattle.list_laws.proofs.Options.{then_itself}

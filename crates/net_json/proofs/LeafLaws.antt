@@ -16,10 +16,10 @@ use Rattle.json_shape.specs.Parts.{IsNumber, IsText, IsTruth, HasMember, AreItem
 use Rattle.json_shape.proofs.Steps.{bind_ok, guard_ok, same_ok}
 use Rattle.json_shape.proofs.Readers
 use Rattle.json_shape.proofs.Fresh
-use Rattle.pop_net.specs.declared.leaf.Move.{Move}
-use Rattle.pop_net.specs.LeafModel.{LeafModel, IsLeaf, IsMoveBelow}
+use Rattle.pop_leaf.specs.declared.leaf.Move.{Move}
+use Rattle.pop_leaf.specs.LeafModel.{LeafModel, IsLeaf, IsMoveBelow}
 use Rattle.pop_io.specs.declared.names.TheConstants.{VARIABLE_LIMIT}
-use Rattle.pop_net.specs.declared.limits.TheConstants.{STATE_LIMIT, MOVE_LIMIT, HELPER_LIMIT}
+use Rattle.pop_leaf.specs.declared.limits.TheConstants.{STATE_LIMIT, MOVE_LIMIT, HELPER_LIMIT}
 use Rattle.net_json.specs.declared.format.TheConstants.{PLAIN_FORMAT, HELPER_FORMAT}
 use Rattle.net_json.specs.NetFile.{IsMove, AreHelpers, IsLeafFile}
 use Rattle.net_json.specs.Examined.{name_at, names_at, four_at, move_at, move_item, leaf_moves_at, leaf_state_item, leaf_states_at, inputs_at, truth_item, outputs_at, helpers_allowed, helpers_at, leaf_at}

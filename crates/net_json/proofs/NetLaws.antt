@@ -18,13 +18,13 @@ use Rattle.json_shape.specs.Parts.{IsNumber, AreItems, IsList}
 use Rattle.json_shape.proofs.Steps.{bind_ok, guard_ok, same_ok}
 use Rattle.json_shape.proofs.Readers
 use Rattle.json_shape.proofs.Fresh
-use Rattle.pop_net.specs.declared.net.Item.{Item}
-use Rattle.pop_net.specs.declared.net.Item.TheVariants.{Leaf, Not, And, Or}
-use Rattle.pop_net.specs.LeafModel.{LeafModel, IsLeaf}
-use Rattle.pop_net.specs.NetModel.{NetModel, IsNet, NamesBelow, combined, depth_operators, helpers_of}
+use Rattle.pop_leaf.specs.declared.item.Item.{Item}
+use Rattle.pop_leaf.specs.declared.item.Item.TheVariants.{Leaf, Not, And, Or}
+use Rattle.pop_leaf.specs.LeafModel.{LeafModel, IsLeaf}
+use Rattle.pop_leaf.specs.NetModel.{NetModel, IsNet, NamesBelow, combined, depth_operators, helpers_of}
 use Rattle.pop_net.specs.NetFaults.{are_low, first_wide_leaf}
 use Rattle.pop_io.specs.declared.names.TheConstants.{VARIABLE_LIMIT}
-use Rattle.pop_net.specs.declared.limits.TheConstants.{HELPER_LIMIT, LEAF_LIMIT, ITEM_LIMIT, DEPTH_LIMIT}
+use Rattle.pop_leaf.specs.declared.limits.TheConstants.{HELPER_LIMIT, LEAF_LIMIT, ITEM_LIMIT, DEPTH_LIMIT}
 use Rattle.pop_net.proofs.NetFaults.{none_wide, some_item}
 use Rattle.net_json.specs.declared.format.TheConstants.{PLAIN_FORMAT, HELPER_FORMAT}
 use Rattle.net_json.specs.NetFile.{IsItem, AreHelpers, IsLeafFile, IsNetFile}

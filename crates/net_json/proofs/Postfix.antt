@@ -4,8 +4,8 @@ use Rattle.std.specs.Prelude.{is_some, IsSomeAnd}
 use Rattle.std.proofs.lemmas.Bool.{and_parts, leb-true}
 use Rattle.std.proofs.lemmas.List.Elements.{All-nil, All-cons}
 use Rattle.list_laws.proofs.Options.{some_before, some_and}
-use Rattle.pop_net.specs.declared.net.Item.{Item}
-use Rattle.pop_net.specs.NetModel.{after_items, only_one, combined, depth_operators}
+use Rattle.pop_leaf.specs.declared.item.Item.{Item}
+use Rattle.pop_leaf.specs.NetModel.{after_items, only_one, combined, depth_operators}
 use Rattle.pop_net.specs.NetFaults.{are_low}
 use Rattle.pop_net.proofs.Trees.{after_items-append, low_decides}
 use Rattle.pop_net.proofs.Whole.{AllLow, all_low_before, one_left}

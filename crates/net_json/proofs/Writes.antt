@@ -10,12 +10,12 @@ use Rattle.serde_json.specs.declared.value.Value.{Value}
 use Rattle.json_shape.specs.Shapes.{listed}
 use Rattle.json_shape.specs.Parts.{IsNumber, IsText, IsTruth, AreItems, IsList}
 use Rattle.json_shape.proofs.Put.{made}
-use Rattle.pop_net.specs.declared.leaf.Move.{Move}
-use Rattle.pop_net.specs.declared.net.Item.{Item}
-use Rattle.pop_net.specs.declared.net.Item.TheVariants.{Leaf, Not, And, Or}
-use Rattle.pop_net.specs.LeafModel.{LeafModel, IsLeaf, IsMoveBelow}
-use Rattle.pop_net.specs.NetModel.{NetModel, IsNet, NamesBelow, number_of_helpers}
-use Rattle.pop_net.specs.declared.limits.TheConstants.{STATE_LIMIT, LEAF_LIMIT}
+use Rattle.pop_leaf.specs.declared.leaf.Move.{Move}
+use Rattle.pop_leaf.specs.declared.item.Item.{Item}
+use Rattle.pop_leaf.specs.declared.item.Item.TheVariants.{Leaf, Not, And, Or}
+use Rattle.pop_leaf.specs.LeafModel.{LeafModel, IsLeaf, IsMoveBelow}
+use Rattle.pop_leaf.specs.NetModel.{NetModel, IsNet, NamesBelow, number_of_helpers}
+use Rattle.pop_leaf.specs.declared.limits.TheConstants.{STATE_LIMIT, LEAF_LIMIT}
 use Rattle.net_json.specs.NetFile.{IsMove, IsItem, IsLeafFile, IsNetFile}
 use Rattle.net_json.specs.Written.{number_data, list_data, texts_data, numbers_data, truths_data, move_data, item_data, leaf_data, is_helped, format_of, net_data}
 use Rattle.list_laws.proofs.Lists.{take_one_more}

@@ -12,14 +12,14 @@ use Rattle.json_shape.specs.Faults.{Fault, ◌>>=◌, broken}
 use Rattle.json_shape.specs.Paths.{member_path, item_path}
 use Rattle.json_shape.specs.Shapes.{of_kind, object_at, member_by, list_at, number_at}
 use Rattle.json_shape.specs.Shapes.{text_at, truth_at, each, each_at, listed}
-use Rattle.pop_net.specs.declared.leaf.Move.{Move}
-use Rattle.pop_net.specs.declared.net.Item.{Item}
-use Rattle.pop_net.specs.declared.net.Item.TheVariants.{Leaf, Not, And, Or}
-use Rattle.pop_net.specs.LeafModel.{LeafModel}
-use Rattle.pop_net.specs.NetModel.{NetModel, after_items, combined, depth_operators}
+use Rattle.pop_leaf.specs.declared.leaf.Move.{Move}
+use Rattle.pop_leaf.specs.declared.item.Item.{Item}
+use Rattle.pop_leaf.specs.declared.item.Item.TheVariants.{Leaf, Not, And, Or}
+use Rattle.pop_leaf.specs.LeafModel.{LeafModel}
+use Rattle.pop_leaf.specs.NetModel.{NetModel, after_items, combined, depth_operators}
 use Rattle.pop_net.specs.NetFaults.{are_low, first_wide_leaf}
 use Rattle.pop_io.specs.declared.names.TheConstants.{VARIABLE_LIMIT}
-use Rattle.pop_net.specs.declared.limits.TheConstants.{STATE_LIMIT, MOVE_LIMIT, HELPER_LIMIT, LEAF_LIMIT, ITEM_LIMIT}
+use Rattle.pop_leaf.specs.declared.limits.TheConstants.{STATE_LIMIT, MOVE_LIMIT, HELPER_LIMIT, LEAF_LIMIT, ITEM_LIMIT}
 use Rattle.net_json.specs.declared.format.TheConstants.{PLAIN_FORMAT, HELPER_FORMAT}
 
 -- a name of this form that differs from those before it

@@ -1,6 +1,6 @@
 -- HelperRange: how many helpers a leaf may have.
 use Rattle.std.specs.Prelude.{ℕ, ◌≤◌, Option, IfSome}
-use Rattle.pop_net.specs.declared.limits.TheConstants.{HELPER_LIMIT}
+use Rattle.pop_leaf.specs.declared.limits.TheConstants.{HELPER_LIMIT}
 
 -- no more than any leaf may have
 abbrev pub IsHelperRange : Option (ℕ × ℕ) → Type 0

@@ -2,12 +2,12 @@
 use Rattle.std.specs.Prelude.{◌≡◌, ◌⊎◌, ℕ, List, [], ◌∷◌, codes}
 use Rattle.serde_json.specs.Data.{Data}
 use Rattle.json_shape.specs.Parts.{IsNumber, IsText, IsTruth, HasMember, IsList}
-use Rattle.pop_net.specs.declared.leaf.Move.{Move}
-use Rattle.pop_net.specs.declared.net.Item.{Item}
-use Rattle.pop_net.specs.declared.net.Item.TheVariants.{Leaf, Not, And, Or}
+use Rattle.pop_leaf.specs.declared.leaf.Move.{Move}
+use Rattle.pop_leaf.specs.declared.item.Item.{Item}
+use Rattle.pop_leaf.specs.declared.item.Item.TheVariants.{Leaf, Not, And, Or}
 use Rattle.net_json.specs.declared.format.TheConstants.{PLAIN_FORMAT, HELPER_FORMAT}
-use Rattle.pop_net.specs.LeafModel.{LeafModel}
-use Rattle.pop_net.specs.NetModel.{NetModel, IsNet}
+use Rattle.pop_leaf.specs.LeafModel.{LeafModel}
+use Rattle.pop_leaf.specs.NetModel.{NetModel, IsNet}
 
 -- a move is a list of its four states
 abbrev pub IsMove : Move → Data → Type 0

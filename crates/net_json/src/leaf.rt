@@ -58,7 +58,7 @@ struct Moves {
 
 impl ReadItem for Moves {
     ghost use Rattle.std.specs.Prelude.{◌≤◌};
-    ghost use Rattle.pop_net.specs.declared.limits.TheConstants.{STATE_LIMIT};
+    ghost use Rattle.pop_leaf.specs.declared.limits.TheConstants.{STATE_LIMIT};
     ghost use Rattle.net_json.specs.Examined.{move_item};
 
     type Item = Move;
@@ -101,7 +101,7 @@ struct States {
 
 impl ReadItem for States {
     ghost use Rattle.std.specs.Prelude.{◌≤◌};
-    ghost use Rattle.pop_net.specs.declared.limits.TheConstants.{STATE_LIMIT};
+    ghost use Rattle.pop_leaf.specs.declared.limits.TheConstants.{STATE_LIMIT};
     ghost use Rattle.net_json.specs.Examined.{leaf_state_item};
 
     type Item = u16;

@@ -5,7 +5,7 @@ ghost use Rattle.serde_json.specs.View.{view};
 ghost use Rattle.json_shape.specs.Faults.{GivesRead};
 ghost use Rattle.json_shape.specs.Paths.{path_text};
 ghost use Rattle.json_shape.specs.Shapes.{member_by, number_at};
-ghost use Rattle.pop_net.specs.NetModel.{IsNet, NetModel};
+ghost use Rattle.pop_leaf.specs.NetModel.{IsNet, NetModel};
 ghost use Rattle.pop_net.specs.NetFaults.{first_wide_leaf};
 ghost use Rattle.net_json.specs.Examined.{fitting_net, net_at};
 ghost use Rattle.net_json.specs.Kept.{IsBroken};

@@ -3,7 +3,7 @@
 ghost use Rattle.std.specs.Prelude.{◌≡◌, [], codes, map, if◌then◌else◌, IfOk, Ok};
 ghost use Rattle.serde_json.specs.Data.{member, no_members};
 ghost use Rattle.serde_json.specs.View.{view, members_view};
-ghost use Rattle.pop_net.specs.NetModel.{IsNet};
+ghost use Rattle.pop_leaf.specs.NetModel.{IsNet};
 ghost use Rattle.net_json.specs.Examined.{net_at};
 ghost use Rattle.net_json.specs.NetFile.{IsNetFile};
 ghost use Rattle.net_json.specs.Written.{number_data, list_data, texts_data, numbers_data, truths_data, move_data};

@@ -5,11 +5,11 @@ use Rattle.std.proofs.lemmas.List.Elements.{All-head, All-tail}
 use Rattle.std.proofs.lemmas.Option.{slice_get-get_or}
 use Rattle.pres_ast.specs.PredTree.{PredTree, LessThan, Negation, Conjunction, Disjunction}
 use Rattle.pres_ast.specs.PredicateValue.{predicate_value}
-use Rattle.pop_net.specs.declared.net.Item.{Item}
-use Rattle.pop_net.specs.declared.net.Item.TheVariants.{Leaf, Not, And, Or}
-use Rattle.pop_net.specs.LeafModel.{LeafModel}
-use Rattle.pop_net.specs.NetModel.{NetModel, Tuple, IsTuple, IsNet, state_of, after_item, after_items, only_one, combined, leaf_outputs, truth, output_of, NamesBelow}
-use Rattle.pop_net.proofs.Quiet.{nothing}
+use Rattle.pop_leaf.specs.declared.item.Item.{Item}
+use Rattle.pop_leaf.specs.declared.item.Item.TheVariants.{Leaf, Not, And, Or}
+use Rattle.pop_leaf.specs.LeafModel.{LeafModel}
+use Rattle.pop_leaf.specs.NetModel.{NetModel, Tuple, IsTuple, IsNet, state_of, after_item, after_items, only_one, combined, leaf_outputs, truth, output_of, NamesBelow}
+use Rattle.pop_leaf.proofs.Quiet.{nothing}
 use Rattle.pop_net.proofs.Whole.{one_left}
 use Rattle.cert_base.specs.ValidProof.{trees}
 use Rattle.list_laws.proofs.Options.{item_within}

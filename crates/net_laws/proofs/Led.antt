@@ -4,13 +4,13 @@ use Rattle.std.specs.Prelude.{Some, slice_get, slice_set, All}
 use Rattle.std.proofs.lemmas.List.{length-map, set_comm}
 use Rattle.std.proofs.lemmas.List.Elements.{All-get_or}
 use Rattle.std.proofs.lemmas.Option.{slice_get_within, slice_get-get_or}
-use Rattle.pop_net.specs.declared.leaf.Move.{Move}
-use Rattle.pop_net.specs.LeafModel.{LeafModel, silent_move}
-use Rattle.pop_net.specs.NetModel.{NetModel, Tuple, CrowdModel, IsTuple, state_of}
-use Rattle.pop_net.specs.Step.{Follows, LeafChange, TupleChange, Meets, Step, LeafStep}
-use Rattle.pop_net.specs.Reachable.{Leads}
+use Rattle.pop_leaf.specs.declared.leaf.Move.{Move}
+use Rattle.pop_leaf.specs.LeafModel.{LeafModel, silent_move}
+use Rattle.pop_leaf.specs.NetModel.{NetModel, Tuple, CrowdModel, IsTuple, state_of}
+use Rattle.pop_leaf.specs.Step.{Follows, LeafChange, TupleChange, Meets, Step, LeafStep}
+use Rattle.pop_leaf.specs.Reachable.{Leads}
 use Rattle.pop_net.proofs.Projection.{component, component-set, slice_get-component}
-use Rattle.pop_net.proofs.Quiet.{set_same}
+use Rattle.pop_leaf.proofs.Quiet.{set_same}
 use Rattle.pop_net.proofs.Tuples.{step_tuples}
 use Rattle.pop_fair.proofs.Reached.{AreChanges, to_step}
 

@@ -7,16 +7,16 @@ use Rattle.std.proofs.lemmas.Bool.Decides.{eqb_tells}
 use Rattle.std.proofs.lemmas.List.{length-set, get_or-set_same, get_or-set_other}
 use Rattle.std.proofs.lemmas.Option.{slice_get_within, get_or_from_slice_get}
 use Rattle.std.proofs.Math.Bool.{or-true}
-use Rattle.pop_net.specs.declared.leaf.Move.{Move}
-use Rattle.pop_net.specs.LeafModel.{LeafModel, silent_move, same_pair}
-use Rattle.pop_net.specs.NetModel.{NetModel, Tuple, state_of}
-use Rattle.pop_net.specs.Step.{LeafMove, TupleChange}
-use Rattle.pop_net.specs.Reaction.{takes_states, by_move, leaf_reaction, reactions, reaction, Differ, IsSingle}
-use Rattle.pop_net.proofs.Found.{find_some}
-use Rattle.pop_net.proofs.Reactions.{and_left, and_right, get-reactions, state_of-map}
-use Rattle.pop_net.proofs.Silent.{same_pair_cases, same-self, takes-own}
+use Rattle.pop_leaf.specs.declared.leaf.Move.{Move}
+use Rattle.pop_leaf.specs.LeafModel.{LeafModel, silent_move, same_pair}
+use Rattle.pop_leaf.specs.NetModel.{NetModel, Tuple, state_of}
+use Rattle.pop_leaf.specs.Step.{LeafMove, TupleChange}
+use Rattle.pop_leaf.specs.Reaction.{takes_states, by_move, leaf_reaction, reactions, reaction, Differ, IsSingle}
+use Rattle.pop_leaf.proofs.Found.{find_some}
+use Rattle.pop_leaf.proofs.Reactions.{and_left, and_right, get-reactions, state_of-map}
+use Rattle.pop_leaf.proofs.Silent.{same_pair_cases, same-self, takes-own}
 use Rattle.pop_net.proofs.Lifting.{with_state, lift_change}
-use Rattle.pop_net.proofs.Quiet.{All-slice_get}
+use Rattle.pop_leaf.proofs.Quiet.{All-slice_get}
 use Rattle.pop_fair.specs.StablyComputes.{Reacts}
 use Rattle.pop_fair.specs.Synchronous.{LeafReacts, AllReact}
 use Rattle.pop_fair.proofs.Synchronous.{none_found, reaction_reacts}

@@ -5,12 +5,12 @@ use Rattle.std.specs.List.{list_any}
 use Rattle.std.proofs.lemmas.List.{length-map}
 use Rattle.std.proofs.lemmas.List.Elements.{All-weaker}
 use Rattle.list_laws.proofs.Lists.{heads, tails}
-use Rattle.pop_net.specs.declared.limits.TheConstants.{NARROW_STATE_LIMIT}
+use Rattle.pop_leaf.specs.declared.limits.TheConstants.{NARROW_STATE_LIMIT}
 use Rattle.pop_net.specs.declared.net.Word.{Word}
 use Rattle.pop_net.specs.LaneWidth.{bits_of, width_for}
 use Rattle.pop_net.specs.Lanes.{digits, lane_size, tuple_of, crowd_of, IsValid, AreValid}
-use Rattle.pop_net.specs.LeafModel.{LeafModel}
-use Rattle.pop_net.specs.NetModel.{NetModel, Tuple, CrowdModel, IsTuple, HasStates, state_of, is_wide, is_wide_leaf}
+use Rattle.pop_leaf.specs.LeafModel.{LeafModel}
+use Rattle.pop_leaf.specs.NetModel.{NetModel, Tuple, CrowdModel, IsTuple, HasStates, state_of, is_wide, is_wide_leaf}
 use Rattle.pair_runs.specs.SameLanes.{HaveSameLanes}
 
 abbrev sizes : List LeafModel → List ℕ

@@ -1,6 +1,6 @@
 -- A run by whole rounds is a watched run.
 use Rattle.std.proofs.Common.{ℕ, ◌+◌, List, arith}
-use Rattle.pop_net.specs.NetModel.{NetModel, CrowdModel}
+use Rattle.pop_leaf.specs.NetModel.{NetModel, CrowdModel}
 use Rattle.pop_crowd.specs.declared.crowd.Meeting.{Meeting}
 use Rattle.run_spec.specs.declared.spec.RunSpec.{RunSpec}
 use Rattle.pair_runs.specs.Run.{IsRunUntil, IsRound}

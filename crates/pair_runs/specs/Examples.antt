@@ -1,6 +1,6 @@
 -- Picks and runs worked out by hand.
 use Rattle.std.specs.Prelude.{◌≡◌, ℕ, [], ◌∷◌, true}
-use Rattle.pop_net.specs.InputCrowd.{input_crowd}
+use Rattle.pop_leaf.specs.InputCrowd.{input_crowd}
 use Rattle.pop_net.specs.ExampleNets.{majority}
 use Rattle.pop_crowd.specs.declared.crowd.Meeting.{Meeting}
 use Rattle.run_spec.specs.declared.spec.RunSpec.{RunSpec}

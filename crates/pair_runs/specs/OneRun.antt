@@ -1,6 +1,6 @@
 -- A run by one worker is the only one.
 use Rattle.std.specs.Prelude.{◌≡◌, List}
-use Rattle.pop_net.specs.NetModel.{NetModel, CrowdModel}
+use Rattle.pop_leaf.specs.NetModel.{NetModel, CrowdModel}
 use Rattle.pop_net.specs.Lanes.{crowd_of}
 use Rattle.pop_net.specs.declared.net.Word.{Word}
 use Rattle.pop_crowd.specs.declared.crowd.Meeting.{Meeting}

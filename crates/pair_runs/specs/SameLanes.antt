@@ -1,6 +1,6 @@
 -- Same lanes: words stand for the same crowds in two nets.
 use Rattle.std.specs.Prelude.{◌≡◌, length, map}
-use Rattle.pop_net.specs.NetModel.{NetModel}
+use Rattle.pop_leaf.specs.NetModel.{NetModel}
 
 -- the leaves of both nets have, in order, equally many states
 abbrev pub HaveSameLanes : NetModel → NetModel → Type 0

@@ -1,13 +1,14 @@
 -- A run by one worker whose rounds were given away, one after the other.
 use Rattle.std.specs.Prelude.{◌≡◌, ℕ, ◌+◌, List, [], ◌∷◌}
-use Rattle.pop_net.specs.NetModel.{NetModel}
+use Rattle.pop_leaf.specs.NetModel.{NetModel}
 use Rattle.pop_net.specs.declared.net.Word.{Word}
 use Rattle.pop_crowd.specs.declared.crowd.Meeting.{Meeting}
 use Rattle.run_spec.specs.declared.spec.RunSpec.{RunSpec}
 use Rattle.pair_runs.specs.declared.alone.End.{End}
 use Rattle.pair_runs.specs.OneRun.{IsOnlyRunFromUntil}
 
--- what is given away in one step, of a type S: what it was before, the round's number and meetings, and what it is after
+-- what is given away in one step, of a type S: what it was before, the round's number and meetings, and what it is
+-- after
 abbrev pub Step : Type 0 → Type 1
 Step S = S → ℕ → List Meeting → S → Type 0
 

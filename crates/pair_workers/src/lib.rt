@@ -1,6 +1,6 @@
 //! Workers on threads that let agents meet by their picks, round by round.
 //! It stands on `pair_runs` and `agent_field`.
-//! The layer above uses: `next_round` makes a whole round by `IsRoundFrom`, and the rounds of `run_all` are a run by `IsRun`.
+//! The layer above uses: `next_round` makes a round by `IsRoundFrom`, and the rounds of `run_all` are a run by `IsRun`.
 #![tactic(auto)]
 
 mod all;

@@ -5,14 +5,14 @@ use Rattle.std.specs.Prelude.{slice_index_or, All}
 use Rattle.std.proofs.lemmas.List.Elements.{All-head, All-tail}
 use Rattle.std.proofs.lemmas.Option.{slice_get-get_or}
 use Rattle.pres_ast.specs.PredTree.{PredTree}
-use Rattle.pop_net.specs.LeafModel.{LeafModel, IsLeaf}
-use Rattle.pop_net.specs.NetModel.{NetModel, CrowdModel, HasStates, IsNet, number_of_helpers, state_of}
-use Rattle.pop_net.specs.InputCrowd.{IsInput, input_crowd, leaf_input_crowd}
-use Rattle.pop_net.specs.Step.{TupleChange, Step, LeafStep}
-use Rattle.pop_net.specs.Reachable.{Leads, Reachable}
-use Rattle.pop_net.specs.Reaction.{reaction, after_meeting}
+use Rattle.pop_leaf.specs.LeafModel.{LeafModel, IsLeaf}
+use Rattle.pop_leaf.specs.NetModel.{NetModel, CrowdModel, HasStates, IsNet, number_of_helpers, state_of}
+use Rattle.pop_leaf.specs.InputCrowd.{IsInput, input_crowd, leaf_input_crowd}
+use Rattle.pop_leaf.specs.Step.{TupleChange, Step, LeafStep}
+use Rattle.pop_leaf.specs.Reachable.{Leads, Reachable}
+use Rattle.pop_leaf.specs.Reaction.{reaction, after_meeting}
 use Rattle.pop_net.proofs.Projection.{component, slice_get-component, input_component, reachable_component}
-use Rattle.pop_net.proofs.Quiet.{All-slice_get}
+use Rattle.pop_leaf.proofs.Quiet.{All-slice_get}
 use Rattle.pop_net.proofs.Tuples.{leads_length, reachable_tuples, input_tuples}
 use Rattle.pop_crowd.specs.declared.crowd.Meeting.{Meeting as Pair}
 use Rattle.pop_crowd.specs.Replay.{replay, IsMeeting, AreMeetings}

@@ -3,12 +3,12 @@ use Rattle.std.proofs.Common.{◌≡◌, ℕ, Bool, true, false, length, sym, su
 use Rattle.std.specs.Prelude.{Some, slice_get, ◌↔◌, IsTrue, All}
 use Rattle.std.proofs.lemmas.Option.{slice_get_within}
 use Rattle.pres_ast.specs.PredModel.{PredModel}
-use Rattle.pop_net.specs.LeafModel.{LeafModel}
-use Rattle.pop_net.specs.NetModel.{NetModel}
+use Rattle.pop_leaf.specs.LeafModel.{LeafModel}
+use Rattle.pop_leaf.specs.NetModel.{NetModel}
 use Rattle.cert_base.specs.declared.proof.Proof.{Proof}
 use Rattle.cert_base.specs.declared.proof.LeafProof.{LeafProof}
 use Rattle.cert_base.specs.ProofLimits.{IsProofWithin}
-use Rattle.cert_base.specs.Combination.{IsNetPred}
+use Rattle.pop_checker.specs.Combination.{IsNetPred}
 use Rattle.cert_base.specs.ValidProof.{ValidProof, CombinesTo}
 use Rattle.pop_checker.specs.declared.fault.Rejected.{Rejected}
 use Rattle.pop_checker.specs.declared.fault.Rejected.TheVariants.{Layers, Tree, Predicate}

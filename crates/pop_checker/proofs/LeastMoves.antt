@@ -5,14 +5,14 @@ use Rattle.std.proofs.lemmas.Bool.{eq-eqb, eqb-true, not-true}
 use Rattle.std.proofs.Math.Bool.{or_comm, and_comm}
 use Rattle.std.proofs.lemmas.List.Elements.{All-nil, All-cons, All-head, All-tail, Contains-append_left, Contains-append_right, Contains-append_cases}
 use Rattle.std.proofs.lemmas.Option.{slice_get_within, slice_get-get_or, get_or_from_slice_get}
-use Rattle.pop_net.specs.declared.leaf.Move.{Move}
-use Rattle.pop_net.specs.LeafModel.{LeafModel, IsLeaf, IsMoveBelow, silent_move, same_pair, pre, post}
-use Rattle.pop_net.specs.Step.{LeafMove}
-use Rattle.pop_net.specs.Reaction.{takes_states, leaf_reaction, by_move}
-use Rattle.pop_net.proofs.Found.{find_some}
-use Rattle.pop_net.proofs.Silent.{same_pair_cases, same-self, takes-own}
-use Rattle.pop_net.proofs.Quiet.{leaf_quiet}
-use Rattle.pop_net.proofs.Reactions.{and_left, and_right}
+use Rattle.pop_leaf.specs.declared.leaf.Move.{Move}
+use Rattle.pop_leaf.specs.LeafModel.{LeafModel, IsLeaf, IsMoveBelow, silent_move, same_pair, pre, post}
+use Rattle.pop_leaf.specs.Step.{LeafMove}
+use Rattle.pop_leaf.specs.Reaction.{takes_states, leaf_reaction, by_move}
+use Rattle.pop_leaf.proofs.Found.{find_some}
+use Rattle.pop_leaf.proofs.Silent.{same_pair_cases, same-self, takes-own}
+use Rattle.pop_leaf.proofs.Quiet.{leaf_quiet}
+use Rattle.pop_leaf.proofs.Reactions.{and_left, and_right}
 use Rattle.cert_base.specs.declared.layer.Layer.{Layer}
 use Rattle.cert_base.specs.ValidLayers.{moves_of_layers, IsInLayer, ValidLayers}
 use Rattle.pop_fair.specs.Synchronous.{LeafReacts}

@@ -14,3 +14,4 @@ pub mod OneLayer
 pub mod Verdicts
 pub mod RightEnds
 pub mod MajorityProof
+pub mod Combined

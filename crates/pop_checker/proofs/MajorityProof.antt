@@ -8,10 +8,10 @@ use Rattle.std.proofs.lemmas.Bool.{ne_eqb}
 use Rattle.std.proofs.lemmas.Option.{same_Some}
 use Rattle.pres_ast.specs.declared.limits.TheConstants.{COEFFICIENT_LIMIT}
 use Rattle.pres_ast.specs.PredModel.{PredModel, HasAtoms}
-use Rattle.pop_net.specs.declared.leaf.Move.{Move}
-use Rattle.pop_net.specs.LeafModel.{LeafModel, IsLeaf, one_at, pre, post, silent_move}
-use Rattle.pop_net.specs.NetModel.{IsNet}
-use Rattle.pop_net.proofs.LeafFaults.{unbroken_leaf}
+use Rattle.pop_leaf.specs.declared.leaf.Move.{Move}
+use Rattle.pop_leaf.specs.LeafModel.{LeafModel, IsLeaf, one_at, pre, post, silent_move}
+use Rattle.pop_leaf.specs.NetModel.{IsNet}
+use Rattle.pop_leaf.proofs.LeafFaults.{unbroken_leaf}
 use Rattle.pop_net.proofs.NetFaults.{unbroken_net}
 use Rattle.cert_base.specs.declared.fact.Term.{Term}
 use Rattle.cert_base.specs.declared.layer.Layer.{Layer}

@@ -3,11 +3,11 @@ use Rattle.std.proofs.Common.{◌≡◌, ℕ, suc, ◌≤◌, true, List, [], �
 use Rattle.std.specs.Prelude.{Some, slice_get, slice_set, slice_index_or, All}
 use Rattle.std.proofs.lemmas.List.Elements.{All-nil, All-cons}
 use Rattle.std.proofs.lemmas.Option.{slice_get_within, get_or_from_slice_get}
-use Rattle.pop_net.specs.LeafModel.{LeafModel}
-use Rattle.pop_net.specs.NetModel.{NetModel, Tuple, CrowdModel, IsTuple}
-use Rattle.pop_net.specs.Step.{LeafStep}
-use Rattle.pop_net.specs.Reachable.{Leads}
-use Rattle.pop_net.specs.Reaction.{reaction, after_meeting}
+use Rattle.pop_leaf.specs.LeafModel.{LeafModel}
+use Rattle.pop_leaf.specs.NetModel.{NetModel, Tuple, CrowdModel, IsTuple}
+use Rattle.pop_leaf.specs.Step.{LeafStep}
+use Rattle.pop_leaf.specs.Reachable.{Leads}
+use Rattle.pop_leaf.specs.Reaction.{reaction, after_meeting}
 use Rattle.pop_net.proofs.Projection.{component}
 use Rattle.pop_crowd.specs.declared.crowd.Meeting.{Meeting}
 use Rattle.pop_crowd.specs.Replay.{replay, IsMeeting, AreMeetings}

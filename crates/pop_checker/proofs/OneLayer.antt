@@ -11,14 +11,14 @@ use Rattle.std.proofs.lemmas.Option.{slice_get_within}
 use Rattle.list_laws.proofs.Lists.{heads, tails}
 use Rattle.pres_ast.specs.PredTree.{PredTree}
 use Rattle.pres_ast.specs.PredModel.{PredModel}
-use Rattle.pop_net.specs.LeafModel.{LeafModel, IsLeaf}
-use Rattle.pop_net.specs.NetModel.{NetModel, CrowdModel, IsTuple, HasStates, IsNet, number_of_helpers, state_of}
-use Rattle.pop_net.specs.InputCrowd.{IsInput, input_crowd}
-use Rattle.pop_net.specs.Step.{LeafMove, LeafChange, TupleChange, Step, LeafStep}
-use Rattle.pop_net.specs.Reachable.{Leads, Reachable}
-use Rattle.pop_net.specs.Terminal.{IsTerminal}
+use Rattle.pop_leaf.specs.LeafModel.{LeafModel, IsLeaf}
+use Rattle.pop_leaf.specs.NetModel.{NetModel, CrowdModel, IsTuple, HasStates, IsNet, number_of_helpers, state_of}
+use Rattle.pop_leaf.specs.InputCrowd.{IsInput, input_crowd}
+use Rattle.pop_leaf.specs.Step.{LeafMove, LeafChange, TupleChange, Step, LeafStep}
+use Rattle.pop_leaf.specs.Reachable.{Leads, Reachable}
+use Rattle.pop_leaf.specs.Terminal.{IsTerminal}
 use Rattle.pop_net.proofs.Projection.{component, step_component}
-use Rattle.pop_net.proofs.Quiet.{All-slice_get, set_same, same_tuple}
+use Rattle.pop_leaf.proofs.Quiet.{All-slice_get, set_same, same_tuple}
 use Rattle.pop_net.proofs.Tuples.{leads_length, reachable_tuples, input_tuples}
 use Rattle.pop_crowd.proofs.Reached.{length-after_meeting}
 use Rattle.cert_base.specs.declared.layer.Layer.{Layer}

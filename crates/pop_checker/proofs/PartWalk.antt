@@ -4,8 +4,8 @@ use Rattle.std.specs.Prelude.{Some, slice_get, sum_by}
 use Rattle.pop_io.specs.declared.failure.Failure.{Failure}
 use Rattle.pop_io.specs.declared.failure.Failure.TheVariants.{Fault, NoMemory}
 use Rattle.pop_io.specs.Failures.{Names}
-use Rattle.pop_net.specs.LeafModel.{LeafModel}
-use Rattle.pop_net.specs.NetModel.{NetModel}
+use Rattle.pop_leaf.specs.LeafModel.{LeafModel}
+use Rattle.pop_leaf.specs.NetModel.{NetModel}
 use Rattle.cert_layers.proofs.Bounds.{bound_more}
 use Rattle.net_laws.proofs.LeafByLeaf.{HoldBefore, one_more, part_at}
 

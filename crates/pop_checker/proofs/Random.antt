@@ -3,11 +3,11 @@ use Rattle.std.proofs.Common.{◌≡◌, ℕ, ◌*◌, ◌≤◌, List, [], ◌�
 use Rattle.std.proofs.lemmas.List.{length-map}
 use Rattle.std.proofs.lemmas.List.Elements.{All-map}
 use Rattle.pres_ast.specs.PredTree.{PredTree}
-use Rattle.pop_net.specs.NetModel.{NetModel, CrowdModel, IsNet}
-use Rattle.pop_net.specs.InputCrowd.{input_crowd}
-use Rattle.pop_net.specs.Step.{TupleChange, Step}
-use Rattle.pop_net.specs.Terminal.{IsTerminal}
-use Rattle.pop_net.specs.Reaction.{after_meeting}
+use Rattle.pop_leaf.specs.NetModel.{NetModel, CrowdModel, IsNet}
+use Rattle.pop_leaf.specs.InputCrowd.{input_crowd}
+use Rattle.pop_leaf.specs.Step.{TupleChange, Step}
+use Rattle.pop_leaf.specs.Terminal.{IsTerminal}
+use Rattle.pop_leaf.specs.Reaction.{after_meeting}
 use Rattle.pop_net.proofs.Tuples.{leads_length, reachable_tuples, input_tuples}
 use Rattle.pop_crowd.specs.declared.crowd.Meeting.{Meeting as Pair}
 use Rattle.pop_crowd.specs.Replay.{replay}

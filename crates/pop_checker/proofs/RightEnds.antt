@@ -1,9 +1,9 @@
 -- Nodes that close the base facts leave no wrong end, so a net with a valid proof computes the predicate.
 use Rattle.std.proofs.Common.{◌≡◌, Bool, true, false, List, [], length, refl, sym, ◌∙◌}
-use Rattle.pop_net.proofs.Quiet.{All-slice_get}
+use Rattle.pop_leaf.proofs.Quiet.{All-slice_get}
 use Rattle.pres_ast.specs.PredModel.{PredModel, HasAtoms}
-use Rattle.pop_net.specs.LeafModel.{LeafModel, IsLeaf}
-use Rattle.pop_net.specs.NetModel.{NetModel, IsNet}
+use Rattle.pop_leaf.specs.LeafModel.{LeafModel, IsLeaf}
+use Rattle.pop_leaf.specs.NetModel.{NetModel, IsNet}
 use Rattle.cert_base.specs.declared.node.Node.{Node}
 use Rattle.cert_base.specs.declared.proof.Proof.{Proof}
 use Rattle.cert_base.specs.FactsAndCases.{base_list}

@@ -8,15 +8,15 @@ use Rattle.std.proofs.lemmas.List.Sums.{sum_by-cons}
 use Rattle.std.proofs.lemmas.List.Elements.{All-nil, All-append, All-map, All-weaker}
 use Rattle.std.proofs.lemmas.Option.{slice_get_within}
 use Rattle.pres_ast.specs.PredModel.{PredModel}
-use Rattle.pop_net.specs.LeafModel.{LeafModel, IsLeaf}
-use Rattle.pop_net.specs.NetModel.{NetModel, CrowdModel, IsTuple, HasStates, IsNet, state_of}
-use Rattle.pop_net.specs.Step.{Step, LeafStep}
-use Rattle.pop_net.specs.Reachable.{Reachable}
-use Rattle.pop_net.specs.Terminal.{IsTerminal}
-use Rattle.pop_net.specs.Reaction.{IsSingle}
+use Rattle.pop_leaf.specs.LeafModel.{LeafModel, IsLeaf}
+use Rattle.pop_leaf.specs.NetModel.{NetModel, CrowdModel, IsTuple, HasStates, IsNet, state_of}
+use Rattle.pop_leaf.specs.Step.{Step, LeafStep}
+use Rattle.pop_leaf.specs.Reachable.{Reachable}
+use Rattle.pop_leaf.specs.Terminal.{IsTerminal}
+use Rattle.pop_leaf.specs.Reaction.{IsSingle}
 use Rattle.pop_net.proofs.Lifting.{terminal_from_components}
 use Rattle.pop_net.proofs.Projection.{component, reachable_component}
-use Rattle.pop_net.proofs.Quiet.{All-slice_get}
+use Rattle.pop_leaf.proofs.Quiet.{All-slice_get}
 use Rattle.pop_net.proofs.Tuples.{leads_terminal, reachable_tuples}
 use Rattle.pop_crowd.specs.declared.crowd.Meeting.{Meeting}
 use Rattle.pop_crowd.specs.Replay.{replay, IsMeeting, AreMeetings}

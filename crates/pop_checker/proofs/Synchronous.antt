@@ -6,15 +6,15 @@ use Rattle.std.proofs.lemmas.List.{length-map}
 use Rattle.std.proofs.lemmas.List.Elements.{All-head, All-tail, All-get_or}
 use Rattle.std.proofs.lemmas.Option.{slice_get-get_or}
 use Rattle.pres_ast.specs.PredModel.{PredModel}
-use Rattle.pop_net.specs.LeafModel.{LeafModel, IsLeaf}
-use Rattle.pop_net.specs.NetModel.{NetModel, Tuple, CrowdModel, IsTuple, HasStates, IsNet, state_of}
-use Rattle.pop_net.specs.InputCrowd.{input_crowd}
-use Rattle.pop_net.specs.Step.{TupleChange, Step}
-use Rattle.pop_net.specs.Reachable.{Leads}
-use Rattle.pop_net.specs.Terminal.{IsTerminal}
-use Rattle.pop_net.specs.Reaction.{reactions, reaction, after_meeting, IsSingle}
-use Rattle.pop_net.proofs.Quiet.{All-slice_get, leaf_quiet, leaves_quiet, quiet_change}
-use Rattle.pop_net.proofs.Reactions.{and_left, and_right, length-reactions, get-reactions, state_of-map, reaction_change}
+use Rattle.pop_leaf.specs.LeafModel.{LeafModel, IsLeaf}
+use Rattle.pop_leaf.specs.NetModel.{NetModel, Tuple, CrowdModel, IsTuple, HasStates, IsNet, state_of}
+use Rattle.pop_leaf.specs.InputCrowd.{input_crowd}
+use Rattle.pop_leaf.specs.Step.{TupleChange, Step}
+use Rattle.pop_leaf.specs.Reachable.{Leads}
+use Rattle.pop_leaf.specs.Terminal.{IsTerminal}
+use Rattle.pop_leaf.specs.Reaction.{reactions, reaction, after_meeting, IsSingle}
+use Rattle.pop_leaf.proofs.Quiet.{All-slice_get, leaf_quiet, leaves_quiet, quiet_change}
+use Rattle.pop_leaf.proofs.Reactions.{and_left, and_right, length-reactions, get-reactions, state_of-map, reaction_change}
 use Rattle.pop_net.proofs.Tuples.{leads_length, reachable_tuples, input_tuples}
 use Rattle.pop_crowd.specs.declared.crowd.Meeting.{Meeting as Pair}
 use Rattle.pop_crowd.specs.Replay.{replay, IsMeeting, AreMeetings, changes}

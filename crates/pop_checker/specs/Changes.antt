@@ -1,9 +1,9 @@
 -- Changes: how many steps of a run change the crowd.
 use Rattle.std.specs.Prelude.{◌≢◌, ℕ, ◌*◌, ◌≤◌, List, length}
-use Rattle.pop_net.specs.NetModel.{NetModel, CrowdModel, number_of_helpers}
-use Rattle.pop_net.specs.InputCrowd.{IsInput, input_crowd}
-use Rattle.pop_net.specs.Step.{Step}
-use Rattle.pop_net.specs.Reachable.{Leads}
+use Rattle.pop_leaf.specs.NetModel.{NetModel, CrowdModel, number_of_helpers}
+use Rattle.pop_leaf.specs.InputCrowd.{IsInput, input_crowd}
+use Rattle.pop_leaf.specs.Step.{Step}
+use Rattle.pop_leaf.specs.Reachable.{Leads}
 use Rattle.pop_crowd.specs.declared.crowd.Meeting.{Meeting}
 use Rattle.pop_crowd.specs.Replay.{change_count, AreMeetings}
 

@@ -1,9 +1,9 @@
 -- CheckedModel: a net, the predicate that it computes, and the steps that each agent needs.
 use Rattle.std.specs.Prelude.{◌≡◌, ℕ, length}
 use Rattle.pres_ast.specs.PredModel.{PredModel}
-use Rattle.pop_net.specs.NetModel.{NetModel}
-use Rattle.pop_net.specs.Reaction.{IsSingle}
-use Rattle.pop_net.specs.Step.{Step}
+use Rattle.pop_leaf.specs.NetModel.{NetModel}
+use Rattle.pop_leaf.specs.Reaction.{IsSingle}
+use Rattle.pop_leaf.specs.Step.{Step}
 use Rattle.pop_fair.specs.StablyComputes.{MeetingStep, StablyComputes}
 use Rattle.pop_fair.specs.Synchronous.{SynchronousStep}
 use Rattle.pop_random.specs.ComputesAlmostSurely.{ComputesAlmostSurely}

@@ -3,7 +3,7 @@ use Rattle.std.specs.Prelude.{◌≡◌, Result, IfOk, OnOk}
 use Rattle.pop_io.specs.declared.failure.Failure.{Failure}
 use Rattle.pop_io.specs.Failures.{IfFault, OnlyMemory}
 use Rattle.pres_ast.specs.PredModel.{PredModel}
-use Rattle.pop_net.specs.NetModel.{NetModel}
+use Rattle.pop_leaf.specs.NetModel.{NetModel}
 use Rattle.cert_base.specs.declared.proof.Proof.{Proof}
 use Rattle.cert_base.specs.ProofBound.{proof_bound}
 use Rattle.cert_base.specs.ValidProof.{ValidProof}

@@ -6,3 +6,4 @@ pub mod Parts
 pub mod Sound
 pub mod Checks
 pub mod Majority
+pub mod Combination

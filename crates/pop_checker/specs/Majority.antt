@@ -2,10 +2,10 @@
 -- as B; a and b are what is left of them once they have met. In the end all answer whether there are more of x.
 use Rattle.std.specs.Prelude.{[], ◌∷◌, true, false, pos, negsuc}
 use Rattle.pres_ast.specs.PredTree.{PredTree, LessThan}
-use Rattle.pop_net.specs.declared.net.Item.TheVariants.{Leaf}
+use Rattle.pop_leaf.specs.declared.item.Item.TheVariants.{Leaf}
 use Rattle.pop_net.specs.ExampleNets.{move}
-use Rattle.pop_net.specs.LeafModel.{LeafModel}
-use Rattle.pop_net.specs.NetModel.{NetModel}
+use Rattle.pop_leaf.specs.LeafModel.{LeafModel}
+use Rattle.pop_leaf.specs.NetModel.{NetModel}
 use Rattle.pop_checker.specs.Computes.{Computes}
 
 -- the states A, B, a and b, of which A and a answer yes

@@ -1,13 +1,13 @@
 -- Sound: a valid proof of a well-formed net shows that the net computes the predicate, by the definitions alone.
 use Rattle.std.specs.Prelude.{◌≡◌, ℕ, length, All, Some, slice_get}
 use Rattle.pres_ast.specs.PredModel.{PredModel, HasAtoms}
-use Rattle.pop_net.specs.NetModel.{NetModel, IsNet}
-use Rattle.pop_net.specs.Reaction.{IsSingle}
+use Rattle.pop_leaf.specs.NetModel.{NetModel, IsNet}
+use Rattle.pop_leaf.specs.Reaction.{IsSingle}
 use Rattle.cert_base.specs.declared.proof.Proof.{Proof}
 use Rattle.cert_base.specs.declared.proof.LeafProof.{LeafProof}
 use Rattle.cert_base.specs.ProofBound.{proof_bound}
 use Rattle.cert_base.specs.ValidProof.{ValidProof}
-use Rattle.pop_net.specs.Step.{Step}
+use Rattle.pop_leaf.specs.Step.{Step}
 use Rattle.pop_fair.specs.StablyComputes.{MeetingStep, StablyComputes}
 use Rattle.pop_fair.specs.Synchronous.{SynchronousStep}
 use Rattle.pop_random.specs.ComputesAlmostSurely.{ComputesAlmostSurely, ComputesInCubicTime}

@@ -31,12 +31,12 @@ impl Model for Checked {
 
 impl Checked {
     ghost use Rattle.pres_ast.specs.PredicateValue.{predicate_value};
-    ghost use Rattle.pop_net.specs.NetModel.{number_of_helpers, output_of};
-    ghost use Rattle.pop_net.specs.InputCrowd.{IsInput, input_crowd};
+    ghost use Rattle.pop_leaf.specs.NetModel.{number_of_helpers, output_of};
+    ghost use Rattle.pop_leaf.specs.InputCrowd.{IsInput, input_crowd};
     ghost use Rattle.pop_net.specs.Lanes.{crowd_of, AreValid};
-    ghost use Rattle.pop_net.specs.Step.{Step};
-    ghost use Rattle.pop_net.specs.Reachable.{Reachable};
-    ghost use Rattle.pop_net.specs.Terminal.{IsTerminal};
+    ghost use Rattle.pop_leaf.specs.Step.{Step};
+    ghost use Rattle.pop_leaf.specs.Reachable.{Reachable};
+    ghost use Rattle.pop_leaf.specs.Terminal.{IsTerminal};
     ghost use Rattle.pop_checker.specs.CheckedModel.{IsChecked};
 
     /// A net that was checked. Allocates nothing.

@@ -4,12 +4,14 @@
 #![tactic(auto)]
 
 mod checked;
+mod combination;
 mod fault;
 mod law;
 mod part;
 mod whole;
 
 pub use checked::Checked;
+pub use combination::net_pred_is;
 pub use fault::Rejected;
 pub use law::{majority_computes, valid_is_right};
 pub use part::check_part;

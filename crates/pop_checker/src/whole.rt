@@ -3,7 +3,7 @@
 ghost use Rattle.std.specs.Prelude.{◌≡◌, length, IfOk, OnOk};
 ghost use Rattle.pop_io.specs.Failures.{IfFault, OnlyMemory};
 ghost use Rattle.pres_ast.specs.PredModel.{PredModel};
-ghost use Rattle.pop_net.specs.NetModel.{IsNet};
+ghost use Rattle.pop_leaf.specs.NetModel.{IsNet};
 ghost use Rattle.cert_base.specs.ProofBound.{proof_bound};
 ghost use Rattle.cert_base.specs.ProofLimits.{IsProofWithin};
 ghost use Rattle.pop_checker.specs.Rejections.{AreValidBefore, IsRejected};
@@ -11,9 +11,10 @@ ghost use Rattle.pop_checker.specs.Checks.{Checks};
 ghost use Rattle.pop_checker.specs.Parts.{AreRightBefore};
 
 use crate::checked::Checked;
+use crate::combination::net_pred_is;
 use crate::fault::Rejected;
 use crate::part::check_part;
-use cert_base::{Proof, net_pred_is};
+use cert_base::Proof;
 use pop_io::Failure;
 use pop_net::Net;
 use pres_ast::Pred;

@@ -18,7 +18,7 @@ use Rattle.std.proofs.lemmas.Bool.{false_from_ne_true}
 use Rattle.std.proofs.lemmas.Bool.Decides.{Decides-eqb}
 use Rattle.std.proofs.lemmas.Slice.Eq.{slice_eq-Decides}
 use Rattle.std.proofs.lemmas.Map.Views.{All-insert_key}
-use Rattle.pop_net.specs.NetModel.{Tuple, CrowdModel}
+use Rattle.pop_leaf.specs.NetModel.{Tuple, CrowdModel}
 use Rattle.pop_crowd.specs.Tally.{tuple_cmp, tuples_of, agents_with, tuple_counts, AreTuplesOf}
 use Rattle.pop_crowd.specs.Shown.{shown}
 use Rattle.list_laws.proofs.Lists.{has_first, has_later}

@@ -5,8 +5,8 @@ use Rattle.std.proofs.lemmas.List.Elements.{All-append, All-replicate}
 use Rattle.pop_net.specs.declared.net.Word.{Word}
 use Rattle.std.specs.List.{range_with_len}
 use Rattle.std.proofs.lemmas.List.FromFn.{length-map-range_with_len, map-range_with_len_more}
-use Rattle.pop_net.specs.NetModel.{NetModel, number_of_helpers}
-use Rattle.pop_net.specs.InputCrowd.{starts_from, start_of, helper_of, input_crowd}
+use Rattle.pop_leaf.specs.NetModel.{NetModel, number_of_helpers}
+use Rattle.pop_leaf.specs.InputCrowd.{starts_from, start_of, helper_of, input_crowd}
 use Rattle.pop_net.specs.Lanes.{tuple_of, crowd_of, IsValid, AreValid}
 use Rattle.pop_crowd.specs.Crowds.{input_size}
 use Rattle.pop_net.proofs.Tuples.{length-starts_from}

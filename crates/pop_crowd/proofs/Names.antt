@@ -5,8 +5,8 @@ use Rattle.std.specs.List.{join_with_byte}
 use Rattle.std.proofs.lemmas.List.{take_more, length-take-le}
 use Rattle.std.proofs.lemmas.Option.{get_or_from_slice_get}
 use Rattle.std.proofs.lemmas.Bool.{lt-ltb}
-use Rattle.pop_net.specs.LeafModel.{LeafModel}
-use Rattle.pop_net.specs.NetModel.{Tuple}
+use Rattle.pop_leaf.specs.LeafModel.{LeafModel}
+use Rattle.pop_leaf.specs.NetModel.{Tuple}
 use Rattle.pop_crowd.specs.Tally.{names_of, slash}
 
 pub length-names_of : (leaves : List LeafModel) (tuple : Tuple) → length tuple ≡ length leaves → length (names_of leaves tuple) ≡ length leaves

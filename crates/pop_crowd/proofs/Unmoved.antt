@@ -5,8 +5,8 @@ use Rattle.std.specs.Cmp.Lexicographic.{pointwise}
 use Rattle.std.proofs.lemmas.Bool.{and_parts, and_from, not-false, not_from_true}
 use Rattle.std.proofs.lemmas.Bool.Decides.{Decides-eqb}
 use Rattle.std.proofs.lemmas.Slice.Eq.{slice_eq-Decides}
-use Rattle.pop_net.specs.NetModel.{NetModel, Tuple}
-use Rattle.pop_net.specs.Reaction.{reaction}
+use Rattle.pop_leaf.specs.NetModel.{NetModel, Tuple}
+use Rattle.pop_leaf.specs.Reaction.{reaction}
 use Rattle.pop_crowd.specs.Replay.{reacts}
 
 -- the reaction of two tuples leaves both unchanged

@@ -9,12 +9,12 @@ use Rattle.std.proofs.lemmas.Bool.Decides.{same_from_decides, Decides-eqb, Decid
 use Rattle.std.proofs.lemmas.Slice.Eq.{slice_eq-Decides}
 use Rattle.std.specs.Option.{option_map}
 use Rattle.pop_net.specs.declared.net.Word.{Word}
-use Rattle.pop_net.specs.NetModel.{NetModel, Tuple, IsTuple}
-use Rattle.pop_net.specs.Step.{Step}
+use Rattle.pop_leaf.specs.NetModel.{NetModel, Tuple, IsTuple}
+use Rattle.pop_leaf.specs.Step.{Step}
 use Rattle.pop_net.specs.Lanes.{tuple_of, crowd_of, IsValid}
-use Rattle.pop_net.specs.Reaction.{reaction, after_meeting}
+use Rattle.pop_leaf.specs.Reaction.{reaction, after_meeting}
 use Rattle.pop_net.proofs.Packing.{same_word, is_tuple}
-use Rattle.pop_net.proofs.Reactions.{reaction_step}
+use Rattle.pop_leaf.proofs.Reactions.{reaction_step}
 use Rattle.pop_crowd.specs.Replay.{reacts, changes}
 
 -- each tuple of a crowd of words has one state per leaf

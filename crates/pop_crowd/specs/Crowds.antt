@@ -1,7 +1,7 @@
 -- When counts give no crowd that can be run.
 use Rattle.std.specs.Prelude.{◌≡◌, ℕ, ◌+◌, ◌&&◌, nat_le, List, sum, Option, Some}
-use Rattle.pop_net.specs.FirstFault.{unless}
-use Rattle.pop_net.specs.NetModel.{NetModel, number_of_helpers}
+use Rattle.pop_leaf.specs.FirstFault.{unless}
+use Rattle.pop_leaf.specs.NetModel.{NetModel, number_of_helpers}
 use Rattle.pop_crowd.specs.declared.limits.TheConstants.{AGENT_LEAST, AGENT_LIMIT}
 use Rattle.pop_crowd.specs.declared.fault.CrowdFault.{CrowdFault}
 use Rattle.pop_crowd.specs.declared.fault.CrowdFault.TheVariants as fault

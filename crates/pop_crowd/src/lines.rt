@@ -2,7 +2,7 @@
 
 ghost use Rattle.std.specs.Prelude.{◌≡◌, [], ◌∷◌, ◌++◌, nat_lt, if◌then◌else◌, IfOk, OnOk};
 ghost use Rattle.std.specs.List.{join_with_byte};
-ghost use Rattle.pop_net.specs.NetModel.{IsTuple, HasStates};
+ghost use Rattle.pop_leaf.specs.NetModel.{IsTuple, HasStates};
 ghost use Rattle.pop_net.specs.Lanes.{tuple_of, crowd_of, IsValid, AreValid};
 ghost use Rattle.pop_crowd.specs.Tally.{tuple_counts, names_of, slash, crowd_line, crowd_lines};
 ghost use Rattle.pop_crowd.specs.Shown.{shown};

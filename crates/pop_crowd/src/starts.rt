@@ -2,8 +2,8 @@
 
 ghost use Rattle.std.specs.Prelude.{◌≡◌, ◌*◌, ◌^◌, ◌≤◌, ◌++◌, length, map, IfOk, OnOk, sum, replicate};
 ghost use Rattle.std.specs.List.{range_with_len};
-ghost use Rattle.pop_net.specs.NetModel.{number_of_helpers};
-ghost use Rattle.pop_net.specs.InputCrowd.{starts_from, start_of, helper_of, input_crowd};
+ghost use Rattle.pop_leaf.specs.NetModel.{number_of_helpers};
+ghost use Rattle.pop_leaf.specs.InputCrowd.{starts_from, start_of, helper_of, input_crowd};
 ghost use Rattle.pop_net.specs.Lanes.{crowd_of, AreValid};
 ghost use Rattle.pop_crowd.specs.Crowds.{input_size};
 

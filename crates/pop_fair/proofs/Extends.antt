@@ -6,14 +6,14 @@ use Rattle.std.proofs.lemmas.List.Sorted.{IsPermutation-refl, IsPermutation-sym,
 use Rattle.std.proofs.lemmas.Option.{slice_get-get_or}
 use Rattle.std.proofs.lemmas.List.Elements.{All-get_or}
 use Rattle.pres_ast.specs.PredTree.{PredTree}
-use Rattle.pop_net.specs.NetModel.{NetModel, Tuple, CrowdModel, IsTuple, number_of_helpers}
-use Rattle.pop_net.specs.InputCrowd.{IsInput, input_crowd}
-use Rattle.pop_net.specs.Step.{TupleChange, Meets, Step}
-use Rattle.pop_net.specs.Reachable.{Leads, Reachable}
-use Rattle.pop_net.specs.Terminal.{IsTerminal}
-use Rattle.pop_net.specs.Reaction.{reaction}
+use Rattle.pop_leaf.specs.NetModel.{NetModel, Tuple, CrowdModel, IsTuple, number_of_helpers}
+use Rattle.pop_leaf.specs.InputCrowd.{IsInput, input_crowd}
+use Rattle.pop_leaf.specs.Step.{TupleChange, Meets, Step}
+use Rattle.pop_leaf.specs.Reachable.{Leads, Reachable}
+use Rattle.pop_leaf.specs.Terminal.{IsTerminal}
+use Rattle.pop_leaf.specs.Reaction.{reaction}
 use Rattle.pop_net.proofs.Permutations.{terminal_permuted}
-use Rattle.pop_net.proofs.Reactions.{reaction_change}
+use Rattle.pop_leaf.proofs.Reactions.{reaction_change}
 use Rattle.pop_fair.specs.StablyComputes.{IsSameMap, IsSameMultiset, MultisetStep, Reacts}
 use Rattle.pop_fair.specs.Synchronous.{AllReact}
 use Rattle.pop_fair.specs.Extensions.{FairExtension, ExtendFairly}

@@ -4,13 +4,13 @@ use Rattle.std.proofs.Common.{◌≡◌, ℕ, zero, suc, ◌+◌, ◌≤◌, Lis
 use Rattle.std.specs.Prelude.{All}
 use Rattle.std.specs.List.Sorted.{IsPermutation}
 use Rattle.std.proofs.lemmas.List.Sorted.{IsPermutation-refl, IsPermutation-sym, IsPermutation-trans, All-permutation, length_permutation}
-use Rattle.pop_net.specs.NetModel.{NetModel, Tuple, CrowdModel, IsTuple}
-use Rattle.pop_net.specs.InputCrowd.{input_crowd}
-use Rattle.pop_net.specs.Step.{TupleChange, Meets, Step}
-use Rattle.pop_net.specs.Reachable.{Leads, Reachable}
-use Rattle.pop_net.specs.Reaction.{reaction}
-use Rattle.pop_net.proofs.Quiet.{All-slice_get}
-use Rattle.pop_net.proofs.Reactions.{reaction_change}
+use Rattle.pop_leaf.specs.NetModel.{NetModel, Tuple, CrowdModel, IsTuple}
+use Rattle.pop_leaf.specs.InputCrowd.{input_crowd}
+use Rattle.pop_leaf.specs.Step.{TupleChange, Meets, Step}
+use Rattle.pop_leaf.specs.Reachable.{Leads, Reachable}
+use Rattle.pop_leaf.specs.Reaction.{reaction}
+use Rattle.pop_leaf.proofs.Quiet.{All-slice_get}
+use Rattle.pop_leaf.proofs.Reactions.{reaction_change}
 use Rattle.pop_net.proofs.Tuples.{leads_length, reachable_tuples, input_tuples}
 use Rattle.pop_net.proofs.Permutations.{meets_permuted}
 use Rattle.pop_fair.specs.Executions.{IsExecution, IsFair}

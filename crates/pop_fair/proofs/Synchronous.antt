@@ -4,13 +4,13 @@ use Rattle.std.specs.Prelude.{Option, Some, None, find, slice_get}
 use Rattle.std.proofs.lemmas.Bool.{eq-eqb, eqb-true, not-true}
 use Rattle.std.proofs.lemmas.List.{length-map}
 use Rattle.std.proofs.Math.Bool.{or-true}
-use Rattle.pop_net.specs.declared.leaf.Move.{Move}
-use Rattle.pop_net.specs.LeafModel.{LeafModel, silent_move, same_pair}
-use Rattle.pop_net.specs.NetModel.{NetModel, Tuple, IsTuple, state_of}
-use Rattle.pop_net.specs.Step.{Follows, LeafMove, LeafChange, TupleChange}
-use Rattle.pop_net.specs.Reaction.{takes_states, after_move, by_move, leaf_reaction, reactions, reaction}
-use Rattle.pop_net.proofs.Found.{find_some}
-use Rattle.pop_net.proofs.Reactions.{and_left, and_right, or_right, length-reactions, get-reactions, state_of-map}
+use Rattle.pop_leaf.specs.declared.leaf.Move.{Move}
+use Rattle.pop_leaf.specs.LeafModel.{LeafModel, silent_move, same_pair}
+use Rattle.pop_leaf.specs.NetModel.{NetModel, Tuple, IsTuple, state_of}
+use Rattle.pop_leaf.specs.Step.{Follows, LeafMove, LeafChange, TupleChange}
+use Rattle.pop_leaf.specs.Reaction.{takes_states, after_move, by_move, leaf_reaction, reactions, reaction}
+use Rattle.pop_leaf.proofs.Found.{find_some}
+use Rattle.pop_leaf.proofs.Reactions.{and_left, and_right, or_right, length-reactions, get-reactions, state_of-map}
 use Rattle.pop_fair.specs.Synchronous.{LeafReacts, AllReact}
 use Rattle.pop_fair.specs.StablyComputes.{Reacts}
 use Rattle.pop_fair.specs.Laws.{FairSynchronousStabilise, MapsAndMultisets}

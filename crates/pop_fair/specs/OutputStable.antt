@@ -3,10 +3,10 @@
 use Rattle.std.specs.Prelude.{◌≡◌, ℕ, ◌≤◌, Bool, List, length, All}
 use Rattle.pres_ast.specs.PredTree.{PredTree}
 use Rattle.pres_ast.specs.PredicateValue.{predicate_value}
-use Rattle.pop_net.specs.NetModel.{NetModel, CrowdModel, number_of_helpers, output_of}
-use Rattle.pop_net.specs.InputCrowd.{IsInput, input_crowd}
-use Rattle.pop_net.specs.Step.{Step}
-use Rattle.pop_net.specs.Reachable.{Reachable}
+use Rattle.pop_leaf.specs.NetModel.{NetModel, CrowdModel, number_of_helpers, output_of}
+use Rattle.pop_leaf.specs.InputCrowd.{IsInput, input_crowd}
+use Rattle.pop_leaf.specs.Step.{Step}
+use Rattle.pop_leaf.specs.Reachable.{Reachable}
 use Rattle.pop_fair.specs.Executions.{IsFair}
 use Rattle.pop_fair.specs.StablyComputes.{Relation, IsExecutionFrom, IsSameMap, IsSameMultiset, MultisetStep, MeetingStep}
 use Rattle.pop_fair.specs.Synchronous.{SynchronousStep}

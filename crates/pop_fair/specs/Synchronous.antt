@@ -1,8 +1,8 @@
 -- Synchronous: steps in which no leaf waits. Each leaf that has a non-silent move for the two makes one of these.
 use Rattle.std.specs.Prelude.{◌≡◌, ◌⊎◌, ℕ, Some, slice_get}
-use Rattle.pop_net.specs.LeafModel.{LeafModel}
-use Rattle.pop_net.specs.NetModel.{NetModel, Tuple, IsTuple, state_of}
-use Rattle.pop_net.specs.Step.{LeafMove, Meets}
+use Rattle.pop_leaf.specs.LeafModel.{LeafModel}
+use Rattle.pop_leaf.specs.NetModel.{NetModel, Tuple, IsTuple, state_of}
+use Rattle.pop_leaf.specs.Step.{LeafMove, Meets}
 use Rattle.pop_fair.specs.StablyComputes.{Relation}
 
 -- a non-silent move changes both states, or they stay and there is no such move for them

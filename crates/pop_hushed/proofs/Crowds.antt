@@ -2,15 +2,15 @@
 use Rattle.std.proofs.Common.{◌≡◌, ◌⊎◌, inl, inr, ℕ, List, refl, ap, sym, subst, ◌∙◌}
 use Rattle.std.specs.Prelude.{Some, false, slice_get, slice_set, Contains}
 use Rattle.std.proofs.lemmas.Bool.{false≢true}
-use Rattle.pop_net.specs.declared.leaf.Move.{Move}
-use Rattle.pop_net.specs.LeafModel.{LeafModel, silent_move}
-use Rattle.pop_net.specs.Step.{Follows, LeafMove, LeafChange, LeafStep}
-use Rattle.pop_net.specs.Terminal.{IsTerminal}
-use Rattle.pop_net.proofs.Quiet.{set_same}
-use Rattle.pop_net.proofs.Silent.{stays-silent}
+use Rattle.pop_leaf.specs.declared.leaf.Move.{Move}
+use Rattle.pop_leaf.specs.LeafModel.{LeafModel, silent_move}
+use Rattle.pop_leaf.specs.Step.{Follows, LeafMove, LeafChange, LeafStep}
+use Rattle.pop_leaf.specs.Terminal.{IsTerminal}
+use Rattle.pop_leaf.proofs.Quiet.{set_same}
+use Rattle.pop_leaf.proofs.Silent.{stays-silent}
 use Rattle.list_laws.proofs.Lists.{slice_get-set_same, slice_get-set_other}
 use Rattle.list_laws.proofs.Options.{same_value}
-use Rattle.pop_net.specs.Hushed.{hushed}
+use Rattle.pop_leaf.specs.Hushed.{hushed}
 use Rattle.pop_hushed.specs.Laws.{IsKeptMove, NoneCanTake, LeavesAreHushed}
 use Rattle.pop_hushed.proofs.Moves.{hushed_formed, hushed_move, kept_move, hushed_all}
 

@@ -4,7 +4,7 @@ use Rattle.std.specs.Prelude.{Contains, ◌==◌}
 use Rattle.std.proofs.lemmas.Bool.{eq-eqb, eqb-true, or_cases, cases_Bool, false≢true}
 use Rattle.std.proofs.Math.Bool.{or-true}
 use Rattle.list_laws.proofs.Lists.{has_first, has_later}
-use Rattle.pop_net.specs.Hushed.{is_kept}
+use Rattle.pop_leaf.specs.Hushed.{is_kept}
 
 pub kept_listed : (kept : List ℕ) (n : ℕ) → is_kept kept n ≡ true → Contains kept n
 kept_listed [] n e = cc

@@ -7,7 +7,7 @@ use Rattle.std.proofs.lemmas.List.{length-set, length-replicate}
 use Rattle.std.proofs.lemmas.List.Folds.{list_any-append}
 use Rattle.std.proofs.Math.Bool.{or-true, or-false}
 use Rattle.list_laws.proofs.Lists.{take_one_more, get-set_same, slice_get-set_apart}
-use Rattle.pop_net.specs.Hushed.{is_kept}
+use Rattle.pop_leaf.specs.Hushed.{is_kept}
 use Rattle.pop_hushed.specs.Marks.{AreMarks}
 
 replicated : {A : Type 0} (x : A) (count n : ℕ) → n < count → slice_get (replicate count x) n ≡ Some x

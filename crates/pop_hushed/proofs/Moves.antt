@@ -3,10 +3,10 @@ use Rattle.std.proofs.Common.{◌≡◌, ℕ, zero, suc, ◌+◌, ◌<◌, Bool,
 use Rattle.std.specs.Prelude.{Some, slice_get, All, Contains}
 use Rattle.std.proofs.lemmas.Bool.{false≢true}
 use Rattle.std.proofs.lemmas.List.Elements.{All-nil, All-cons, All-head, All-tail}
-use Rattle.pop_net.specs.declared.leaf.Move.{Move}
-use Rattle.pop_net.specs.LeafModel.{LeafModel, IsLeaf, IsMoveBelow, silent_move}
-use Rattle.pop_net.proofs.Silent.{same-self}
-use Rattle.pop_net.specs.Hushed.{is_kept, hush, hush_unless, hushed_moves, hushed}
+use Rattle.pop_leaf.specs.declared.leaf.Move.{Move}
+use Rattle.pop_leaf.specs.LeafModel.{LeafModel, IsLeaf, IsMoveBelow, silent_move}
+use Rattle.pop_leaf.proofs.Silent.{same-self}
+use Rattle.pop_leaf.specs.Hushed.{is_kept, hush, hush_unless, hushed_moves, hushed}
 use Rattle.pop_hushed.specs.Laws.{IsKeptMove}
 use Rattle.pop_hushed.proofs.Kept.{kept_listed, listed_kept}
 

@@ -1,10 +1,10 @@
 -- Laws: what a hushed leaf has of its leaf.
 use Rattle.std.specs.Prelude.{◌≡◌, ◌≢◌, ◌↔◌, ℕ, ◌<◌, false, List, length, Some, slice_get, Contains}
-use Rattle.pop_net.specs.declared.leaf.Move.{Move}
-use Rattle.pop_net.specs.LeafModel.{LeafModel, IsLeaf, silent_move}
-use Rattle.pop_net.specs.Step.{LeafStep}
-use Rattle.pop_net.specs.Terminal.{IsTerminal}
-use Rattle.pop_net.specs.Hushed.{hushed}
+use Rattle.pop_leaf.specs.declared.leaf.Move.{Move}
+use Rattle.pop_leaf.specs.LeafModel.{LeafModel, IsLeaf, silent_move}
+use Rattle.pop_leaf.specs.Step.{LeafStep}
+use Rattle.pop_leaf.specs.Terminal.{IsTerminal}
+use Rattle.pop_leaf.specs.Hushed.{hushed}
 
 -- t is a kept move that isn't silent, and has this number
 pub record IsKeptMove (leaf : LeafModel) (kept : List ℕ) (number : ℕ) (t : Move) : Type 0 where

@@ -1,13 +1,13 @@
 //! The hushed leaf.
 
 ghost use Rattle.std.specs.Prelude.{◌≡◌, length, IfOk};
-ghost use Rattle.pop_net.specs.Hushed.{hush_unless, hushed_moves, hushed};
+ghost use Rattle.pop_leaf.specs.Hushed.{hush_unless, hushed_moves, hushed};
 ghost use Rattle.pop_hushed.specs.Marks.{AreMarks};
 
 use crate::marks::marks_of;
 use crate::parts::{helpers_of, inputs_of, outputs_of, states_of};
 use pop_io::{List, NoMemory};
-use pop_net::{Leaf, Move};
+use pop_leaf::{Leaf, Move};
 use std::alloc::Global;
 
 /// The leaf in which the moves with these numbers are kept and every other move is silent. Numbers past the last move

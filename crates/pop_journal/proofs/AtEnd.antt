@@ -4,7 +4,7 @@ use Rattle.std.specs.Prelude.{is_none, Err}
 use Rattle.std.proofs.lemmas.Bool.{cond-false, false≢true}
 use Rattle.std.proofs.lemmas.List.{take_all, drop_all}
 use Rattle.pop_lines.specs.Lines.{lines_of}
-use Rattle.pop_net.specs.NetModel.{NetModel, CrowdModel}
+use Rattle.pop_leaf.specs.NetModel.{NetModel, CrowdModel}
 use Rattle.pop_crowd.specs.declared.crowd.Meeting.{Meeting}
 use Rattle.pop_crowd.specs.Replay.{replay}
 use Rattle.run_spec.specs.declared.spec.RunSpec.{RunSpec}

@@ -4,7 +4,7 @@ use Rattle.std.specs.Prelude.{Some, None, Result, Ok, Err, IfOk, IfErr}
 use Rattle.std.proofs.lemmas.List.{length-map}
 use Rattle.pop_net.specs.declared.net.Word.{Word}
 use Rattle.pop_io.specs.declared.gate.TheConstants.{WORKER_LIMIT}
-use Rattle.pop_net.specs.NetModel.{NetModel, CrowdModel, IsTuple}
+use Rattle.pop_leaf.specs.NetModel.{NetModel, CrowdModel, IsTuple}
 use Rattle.pop_net.specs.Lanes.{crowd_of, tuple_of}
 use Rattle.pop_lines.specs.Lines.{lines_of}
 use Rattle.pop_crowd.specs.declared.limits.TheConstants.{AGENT_LEAST, AGENT_LIMIT}

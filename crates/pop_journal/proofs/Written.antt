@@ -5,7 +5,7 @@ use Rattle.std.proofs.lemmas.List.Elements.{All-nil, All-cons, All-head, All-tai
 use Rattle.std.proofs.lemmas.Option.{slice_get-get_or}
 use Rattle.pop_io.specs.declared.gate.TheConstants.{WORKER_LIMIT}
 use Rattle.pop_lines.specs.Lines.{lines_of, ended}
-use Rattle.pop_net.specs.NetModel.{NetModel, CrowdModel}
+use Rattle.pop_leaf.specs.NetModel.{NetModel, CrowdModel}
 use Rattle.pop_crowd.specs.declared.limits.TheConstants.{AGENT_LIMIT}
 use Rattle.pop_crowd.specs.declared.crowd.Meeting.{Meeting}
 use Rattle.pop_crowd.specs.Replay.{IsMeeting}

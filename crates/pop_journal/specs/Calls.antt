@@ -1,6 +1,6 @@
 -- Calls: what the calls on journals require and promise.
 use Rattle.std.specs.Prelude.{◌≡◌, ℕ, ◌+◌, ◌≤◌, List, ◌∷◌, ◌++◌, length, codes, Result, IfOk}
-use Rattle.pop_net.specs.NetModel.{NetModel}
+use Rattle.pop_leaf.specs.NetModel.{NetModel}
 use Rattle.pop_net.specs.declared.net.Word.{Word}
 use Rattle.pop_net.specs.Lanes.{crowd_of, AreValid}
 use Rattle.run_spec.specs.declared.kind.RunKind.{RunKind}

@@ -1,7 +1,7 @@
 //! The replay of a journal, line by line.
 
 ghost use Rattle.std.specs.Prelude.{◌≡◌, ◌≢◌, true, false, ◌∷◌, [], ◌++◌, ◌+◌, ◌<◌, ◌≤◌, ◌^◌, length, codes, All, IfOk};
-ghost use Rattle.pop_net.specs.NetModel.{CrowdModel};
+ghost use Rattle.pop_leaf.specs.NetModel.{CrowdModel};
 ghost use Rattle.pop_net.specs.Lanes.{crowd_of, AreValid};
 ghost use Rattle.pop_crowd.specs.Replay.{AreMeetings};
 ghost use Rattle.pair_runs.specs.CrowdSize.{IsCrowdSize};
@@ -68,7 +68,7 @@ fn differs(
 
 impl Replayer {
     ghost use Rattle.std.specs.Prelude.{◌≡◌, ◌∷◌, [], ◌++◌, ◌+◌, ◌<◌, ◌≤◌, ◌^◌, length, List, All, IfOk, IfSome};
-    ghost use Rattle.pop_net.specs.NetModel.{NetModel, CrowdModel};
+    ghost use Rattle.pop_leaf.specs.NetModel.{NetModel, CrowdModel};
     ghost use Rattle.pop_net.specs.Lanes.{AreValid};
     ghost use Rattle.pop_crowd.specs.Replay.{AreMeetings};
     ghost use Rattle.pop_crowd.specs.declared.crowd.Meeting.{Meeting};

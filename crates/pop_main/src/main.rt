@@ -53,8 +53,8 @@ fn refs<'w>(rt: &impl AllocGlobal, words: &'w [String]) -> Result<Vec<&'w str>, 
     Ok(list)
 }
 
-/// The status of the top call over the standard streams: of the one that returns, if the words need no threads. A faulty
-/// command line is not handed on.
+/// The status of the top call over the standard streams: of the one that returns, if the words need no threads. A
+/// faulty command line is not handed on.
 fn status_of<R>(rt: &R) -> Status
 where
     R: Env + Input + Print + AllocGlobal + Threads + Wait + Sync,

@@ -5,14 +5,14 @@ use Rattle.std.proofs.lemmas.Bool.{cases_eq}
 use Rattle.std.proofs.lemmas.List.{length-map, take_more, take_more_set, take_all}
 use Rattle.std.proofs.lemmas.Option.{slice_get_read, get_or_from_slice_get, slice_get-map}
 use Rattle.std.specs.Option.{option_map}
-use Rattle.pop_net.specs.LeafModel.{LeafModel}
-use Rattle.pop_net.specs.NetModel.{Tuple, AreStates, state_of, leaf_outputs}
-use Rattle.pop_net.specs.Reaction.{leaf_reaction, reactions}
+use Rattle.pop_leaf.specs.LeafModel.{LeafModel}
+use Rattle.pop_leaf.specs.NetModel.{Tuple, AreStates, state_of, leaf_outputs}
+use Rattle.pop_leaf.specs.Reaction.{leaf_reaction, reactions}
 use Rattle.pop_net.specs.Lanes.{digits}
 use Rattle.pop_net.proofs.Digits.{length-digits}
 use Rattle.pop_net.proofs.Packing.{Packed, packed_more, lane_at}
-use Rattle.pop_net.proofs.Quiet.{All-slice_get}
-use Rattle.pop_net.proofs.Reactions.{get-reactions, length-reactions, state_of-map}
+use Rattle.pop_leaf.proofs.Quiet.{All-slice_get}
+use Rattle.pop_leaf.proofs.Reactions.{get-reactions, length-reactions, state_of-map}
 
 module _ (base : ℕ) (leaves : List LeafModel) (i : ℕ) (leaf : LeafModel) (l : i < length leaves) (is : leaf ≡ get_or leaves i leaf) where
   pub here : slice_get leaves i ≡ Some leaf

@@ -1,14 +1,8 @@
-pub mod Found
-pub mod Reactions
 pub mod Projection
-pub mod Quiet
 pub mod OneLeaf
 pub mod Tuples
 pub mod Lifting
 pub mod Digits
-pub mod Silent
-pub mod FirstFault
-pub mod LeafFaults
 pub mod Trees
 pub mod Whole
 pub mod NetFaults
@@ -16,8 +10,6 @@ pub mod LaneBits
 pub mod Packing
 pub mod Lanewise
 pub mod Values
-pub mod Within
-pub mod Tables
 pub mod Widths
 pub mod DigitSet
 pub mod StateSet

@@ -7,16 +7,16 @@ use Rattle.std.proofs.lemmas.Bool.{not-true, false≢true, false_from_ne_true, l
 use Rattle.std.proofs.lemmas.Bool.Decides.{Decides-eqb}
 use Rattle.std.proofs.Math.Bool.{not-not}
 use Rattle.pop_io.specs.Names.{AreNames, variable_name}
-use Rattle.pop_net.specs.declared.net.Item.{Item}
+use Rattle.pop_leaf.specs.declared.item.Item.{Item}
 use Rattle.pop_net.specs.declared.fault.NetFault.{NetFault}
 use Rattle.pop_net.specs.declared.fault.NetFault.TheVariants as fault
-use Rattle.pop_net.specs.LeafModel.{LeafModel, IsLeaf}
+use Rattle.pop_leaf.specs.LeafModel.{LeafModel, IsLeaf}
 use Rattle.pop_io.specs.declared.names.TheConstants.{VARIABLE_LIMIT}
-use Rattle.pop_net.specs.declared.limits.TheConstants.{LEAF_LIMIT, ITEM_LIMIT, WIDE_LEAF_LIMIT, DEPTH_LIMIT}
-use Rattle.pop_net.specs.NetModel.{NetModel, IsNet, combined, depth_operators, number_of_helpers, is_wide_leaf, is_wide}
+use Rattle.pop_leaf.specs.declared.limits.TheConstants.{LEAF_LIMIT, ITEM_LIMIT, WIDE_LEAF_LIMIT, DEPTH_LIMIT}
+use Rattle.pop_leaf.specs.NetModel.{NetModel, IsNet, combined, depth_operators, number_of_helpers, is_wide_leaf, is_wide}
 use Rattle.pop_net.specs.NetFaults.{fault_of_net, net_fault, first_wide_leaf, IsTree, RefusesNet}
-use Rattle.pop_net.proofs.FirstFault.{NoneIff, first_of-nil, first_of-cons, none_unless, none_map, none_position, none_bad}
-use Rattle.pop_net.proofs.LeafFaults.{within}
+use Rattle.pop_leaf.proofs.FirstFault.{NoneIff, first_of-nil, first_of-cons, none_unless, none_map, none_position, none_bad}
+use Rattle.pop_leaf.proofs.LeafFaults.{within}
 use Rattle.pop_net.proofs.Whole.{none_broken}
 
 -- the first wide leaf

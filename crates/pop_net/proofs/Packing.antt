@@ -4,7 +4,7 @@ use Rattle.std.proofs.Math.Nat.{pow-zero, pow-suc, mod-eq_of_lt}
 use Rattle.std.proofs.lemmas.Nat.{div_below, div-add-mod', pow_pos}
 use Rattle.std.proofs.lemmas.List.{take_more, take_all}
 use Rattle.pop_net.specs.declared.net.Word.{Word}
-use Rattle.pop_net.specs.NetModel.{NetModel, IsTuple, state_of}
+use Rattle.pop_leaf.specs.NetModel.{NetModel, IsTuple, state_of}
 use Rattle.pop_net.specs.LaneWidth.{bits_of, width_of}
 use Rattle.pop_net.specs.Lanes.{digits, lane_size, tuple_of, IsValid}
 use Rattle.pop_net.proofs.Digits.{length-digits, get_or-digits, low_part, high_part}

@@ -6,8 +6,8 @@ use Rattle.std.specs.List.Sorted.{apply_swaps, SwapsInRange, IsPermutation}
 use Rattle.std.proofs.lemmas.List.{length-set}
 use Rattle.std.proofs.lemmas.List.Sorted.{IsPermutation-sym}
 use Rattle.std.proofs.lemmas.Option.{slice_get_within}
-use Rattle.pop_net.specs.Step.{Meets}
-use Rattle.pop_net.specs.Terminal.{IsTerminal}
+use Rattle.pop_leaf.specs.Step.{Meets}
+use Rattle.pop_leaf.specs.Terminal.{IsTerminal}
 use Rattle.pop_net.proofs.Tuples.{meets_length}
 use Rattle.list_laws.proofs.Swaps.{turn, turn_twice, get-swap, swap-set, length-apply_swaps, same_before}
 

@@ -3,8 +3,8 @@ use Rattle.std.proofs.Common.{◌≡◌, ◌⊎◌, inl, inr, ℕ, ◌<◌, List
 use Rattle.std.specs.Prelude.{Some, slice_get, slice_set}
 use Rattle.std.proofs.lemmas.Bool.{cases_eq}
 use Rattle.std.proofs.lemmas.List.{get_or-set_same, get_or-set_other}
-use Rattle.pop_net.specs.LeafModel.{LeafModel}
-use Rattle.pop_net.specs.NetModel.{Tuple, AreStates, state_of}
+use Rattle.pop_leaf.specs.LeafModel.{LeafModel}
+use Rattle.pop_leaf.specs.NetModel.{Tuple, AreStates, state_of}
 use Rattle.list_laws.proofs.Options.{same_value}
 
 pub states_set : (leaves : List LeafModel) (tuple : Tuple) (i q : ℕ) (leaf : LeafModel) → slice_get leaves i ≡ Some leaf → i < length tuple → q < length leaf.states → AreStates leaves tuple → AreStates leaves (slice_set tuple i q)

@@ -9,13 +9,13 @@ use Rattle.std.proofs.lemmas.List.{take_more, take_all}
 use Rattle.std.proofs.lemmas.Option.{same_Some as same_some}
 use Rattle.std.proofs.lemmas.List.Folds.{list_all-append}
 use Rattle.pop_net.specs.declared.fault.CombinationFault.TheVariants as combination
-use Rattle.pop_net.specs.FirstFault.{unless, first_of}
-use Rattle.pop_net.proofs.FirstFault.{none_below, found_below}
+use Rattle.pop_leaf.specs.FirstFault.{unless, first_of}
+use Rattle.pop_leaf.proofs.FirstFault.{none_below, found_below}
 use Rattle.std.proofs.lemmas.List.Elements.{All-head, All-tail, All-drop}
 use Rattle.std.proofs.Math.Bool.{and-true}
-use Rattle.pop_net.specs.declared.net.Item.{Item}
-use Rattle.pop_net.specs.declared.net.Item.TheVariants.{Leaf, Not, And, Or}
-use Rattle.pop_net.specs.NetModel.{Operators, after_item, after_items, depth_operators}
+use Rattle.pop_leaf.specs.declared.item.Item.{Item}
+use Rattle.pop_leaf.specs.declared.item.Item.TheVariants.{Leaf, Not, And, Or}
+use Rattle.pop_leaf.specs.NetModel.{Operators, after_item, after_items, depth_operators}
 use Rattle.pop_net.specs.NetFaults.{names_below, are_low, stands, operands_left, fault_of_combination}
 use Rattle.list_laws.proofs.Options.{then_itself}
 

@@ -2,8 +2,8 @@
 use Rattle.std.proofs.Common.{◌≡◌, ℕ, ◌+◌, ◌<◌, ◌≤◌, List, [], ◌∷◌, length, take, drop, get_or, refl, ap, sym, ◌∙◌, arith}
 use Rattle.std.specs.Prelude.{Option, Some, None, option_and_then, unwrap_or}
 use Rattle.std.proofs.lemmas.List.{take_more, take-append-drop}
-use Rattle.pop_net.specs.declared.net.Item.{Item}
-use Rattle.pop_net.specs.NetModel.{Operators, after_item, after_items, only_one, combined}
+use Rattle.pop_leaf.specs.declared.item.Item.{Item}
+use Rattle.pop_leaf.specs.NetModel.{Operators, after_item, after_items, only_one, combined}
 use Rattle.pop_net.proofs.Trees.{after_items-append}
 
 module _ {A : Type 0} (ops : Operators A) (items : List Item) where

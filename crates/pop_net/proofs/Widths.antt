@@ -3,9 +3,9 @@ use Rattle.std.proofs.Common.{◌≡◌, ◌*◌, ◌^◌, ◌≤◌, Bool, true
 use Rattle.std.specs.Prelude.{All}
 use Rattle.std.proofs.lemmas.Bool.{false≢true, false_from_ne_true, ltb-false}
 use Rattle.std.proofs.lemmas.List.Folds.{list_any_at}
-use Rattle.pop_net.specs.declared.limits.TheConstants.{NARROW_STATE_LIMIT}
-use Rattle.pop_net.specs.LeafModel.{LeafModel, IsLeaf}
-use Rattle.pop_net.specs.NetModel.{NetModel, IsNet, is_wide, is_wide_leaf}
+use Rattle.pop_leaf.specs.declared.limits.TheConstants.{NARROW_STATE_LIMIT}
+use Rattle.pop_leaf.specs.LeafModel.{LeafModel, IsLeaf}
+use Rattle.pop_leaf.specs.NetModel.{NetModel, IsNet, is_wide, is_wide_leaf}
 use Rattle.pop_net.specs.LaneWidth.{bits_of, width_of, width_for}
 
 -- no leaf is wide

@@ -3,8 +3,8 @@ use Rattle.std.specs.Prelude.{ℕ, Bool, true, false, List}
 use Rattle.pop_net.specs.declared.limits.TheConstants.{LANE_BITS, WIDE_LANE_BITS}
 use Rattle.pop_net.specs.declared.lanes.LaneWidth.{LaneWidth}
 use Rattle.pop_net.specs.declared.lanes.LaneWidth.TheVariants.{Narrow, Wide}
-use Rattle.pop_net.specs.LeafModel.{LeafModel}
-use Rattle.pop_net.specs.NetModel.{is_wide}
+use Rattle.pop_leaf.specs.LeafModel.{LeafModel}
+use Rattle.pop_leaf.specs.NetModel.{is_wide}
 
 abbrev pub bits_of : LaneWidth → ℕ
 bits_of Narrow = LANE_BITS

@@ -1,17 +1,6 @@
-pub mod LeafModel
-pub mod Hushed
-pub mod FirstFault
-pub mod LeafFaults
-pub mod NetModel
 pub mod NetFaults
-pub mod InputCrowd
-pub mod Step
-pub mod Reachable
-pub mod Terminal
-pub mod Reaction
 pub mod LaneWidth
 pub mod Lanes
-pub mod ReactionTable
 pub mod ExampleNets
 pub mod Examples
 pub mod Promises

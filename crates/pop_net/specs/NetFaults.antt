@@ -4,18 +4,18 @@ use Rattle.std.specs.Prelude.{take, Option, Some, None, if◌then◌else◌, pos
 use Rattle.std.specs.List.{list_all}
 use Rattle.std.specs.Option.{option_map, option_map_or}
 use Rattle.pop_io.specs.Names.{variable_name}
-use Rattle.pop_net.specs.declared.net.Item.{Item}
-use Rattle.pop_net.specs.declared.net.Item.TheVariants as item
+use Rattle.pop_leaf.specs.declared.item.Item.{Item}
+use Rattle.pop_leaf.specs.declared.item.Item.TheVariants as item
 use Rattle.pop_net.specs.declared.fault.CombinationFault.{CombinationFault}
 use Rattle.pop_net.specs.declared.fault.CombinationFault.TheVariants as combination
 use Rattle.pop_net.specs.declared.fault.NetFault.{NetFault}
 use Rattle.pop_net.specs.declared.fault.NetFault.TheVariants as fault
 use Rattle.pop_io.specs.declared.names.TheConstants.{VARIABLE_LIMIT}
-use Rattle.pop_net.specs.declared.limits.TheConstants.{LEAF_LIMIT, ITEM_LIMIT, WIDE_LEAF_LIMIT, DEPTH_LIMIT}
-use Rattle.pop_net.specs.LeafModel.{LeafModel}
-use Rattle.pop_net.specs.NetModel.{NetModel, NamesBelow, number_of_helpers, is_wide_leaf, after_items, combined}
-use Rattle.pop_net.specs.NetModel.{depth_operators}
-use Rattle.pop_net.specs.FirstFault.{unless, first_of, first_below, first_bad_name}
+use Rattle.pop_leaf.specs.declared.limits.TheConstants.{LEAF_LIMIT, ITEM_LIMIT, WIDE_LEAF_LIMIT, DEPTH_LIMIT}
+use Rattle.pop_leaf.specs.LeafModel.{LeafModel}
+use Rattle.pop_leaf.specs.NetModel.{NetModel, NamesBelow, number_of_helpers, is_wide_leaf, after_items, combined}
+use Rattle.pop_leaf.specs.NetModel.{depth_operators}
+use Rattle.pop_leaf.specs.FirstFault.{unless, first_of, first_below, first_bad_name}
 
 -- whether an item is an operator or names one of n leaves
 abbrev pub names_below : ℕ → Item → Bool

@@ -3,13 +3,12 @@
 ghost use Rattle.std.specs.Prelude.{◌≡◌, ◌↔◌, ℕ, ◌≤◌, ◌<◌, ◌&&◌, ◌∷◌, length, drop, All, Some, None, MatchOption};
 ghost use Rattle.std.specs.Prelude.{unwrap_or, false};
 ghost use Rattle.std.specs.Bool.{OnTrue};
-ghost use Rattle.pop_net.specs.NetModel.{after_item, depth_operators, truth, combined};
+ghost use Rattle.pop_leaf.specs.NetModel.{after_item, depth_operators, truth, combined};
 ghost use Rattle.pop_net.specs.NetFaults.{names_below, are_low, IsTree, fault_of_combination};
 
 use crate::fault::CombinationFault;
-use crate::limits::{DEPTH_LIMIT, ITEM_LIMIT};
-use crate::net::Item;
 use crate::operands::Operands;
+use pop_leaf::{DEPTH_LIMIT, ITEM_LIMIT, Item};
 
 /// The first rule that a combination of these leaves breaks. It allocates nothing.
 pub fn combination_fault(leaves: u8, combine: &[Item]) -> Option<CombinationFault>
@@ -39,7 +38,7 @@ pub(crate) fn put_depth(depths: &mut Operands<u8>, leaves: u8, item: Item) -> bo
     ensures put { OnTrue result (after_item depth_operators item depths.old ≡ Some depths.new) }
     ensures still_low { All (λ d. d ≤ DEPTH_LIMIT) depths.new }
 {
-    if !item.is_below(leaves) {
+    if !is_below(item, leaves) {
         return false;
     }
     match take_depth(depths, item) {
@@ -48,6 +47,16 @@ pub(crate) fn put_depth(depths: &mut Operands<u8>, leaves: u8, item: Item) -> bo
             true
         }
         _ => false,
+    }
+}
+
+/// Whether an item is an operator or names one of so many leaves.
+fn is_below(item: Item, leaves: u8) -> bool
+    ensures { result ≡ names_below leaves item }
+{
+    match item {
+        Item::Leaf(i) => i < leaves,
+        Item::Not | Item::And | Item::Or => true,
     }
 }
 

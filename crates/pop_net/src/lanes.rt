@@ -1,11 +1,11 @@
 //! How states are packed into a word: a lane per leaf, lane 0 lowest.
 
 ghost use Rattle.std.specs.Prelude.{◌≡◌, ◌+◌, ◌-◌, ◌*◌, ◌/◌, ◌%◌, ◌^◌, ◌<◌, ◌≤◌, ◌↔◌, IsTrue};
-ghost use Rattle.pop_net.specs.NetModel.{is_wide};
+ghost use Rattle.pop_leaf.specs.NetModel.{is_wide};
 ghost use Rattle.pop_net.specs.LaneWidth.{bits_of, width_of};
 
-use crate::leaf::Leaf;
 use crate::limits::{LANE_BITS, WIDE_LANE_BITS, WORD_BITS};
+use pop_leaf::Leaf;
 
 /// How many bits a lane has.
 #[derive(Clone, Copy, PartialEq, Eq)]

@@ -1,43 +1,21 @@
 //! Protocols that run side by side on the same agents, and a combination of their outputs.
 
 ghost use Rattle.std.specs.Prelude.{◌≡◌, ◌<◌, ◌↔◌, length, Some, IfOk, IfSome, IsTrue, slice_get, slice_set};
-ghost use Rattle.pop_net.specs.NetFaults.{names_below};
 
 use crate::combination::value_of;
-use crate::copies::{copy_leaves, copy_texts};
+use crate::copies::copy_leaves;
 use crate::fault::NetFault;
 use crate::lanes::LaneWidth;
-use crate::leaf::Leaf;
 use crate::rules::net_fault;
 use crate::words::{helper_word, is_valid_word, react_words, start_word, word_outputs};
 use pop_io::{List, NoMemory, Text};
+use pop_leaf::{Item, Leaf, copy_texts};
 use std::alloc::Global;
 use std::marker::Model;
 
 /// One state per leaf, packed: eight bits per leaf, or sixteen in a wide net, leaf 0 lowest.
 #[derive(Clone, Copy, PartialEq, Eq)]
 pub struct Word(pub u64);
-
-/// An item of a combination in postfix.
-#[derive(Clone, Copy, PartialEq, Eq)]
-pub enum Item {
-    Leaf(u8),
-    Not,
-    And,
-    Or,
-}
-
-impl Item {
-    /// Whether it is an operator or names one of so many leaves.
-    pub(crate) fn is_below(&self, leaves: u8) -> bool
-        ensures { result ≡ names_below leaves self.now }
-    {
-        match self {
-            Item::Leaf(i) => *i < leaves,
-            Item::Not | Item::And | Item::Or => true,
-        }
-    }
-}
 
 /// Protocols that run side by side on the same agents.
 #[derive(Drop)]
@@ -50,7 +28,7 @@ pub struct Net {
 
 impl Model for Net {
     ghost use Rattle.std.specs.Prelude.{◌≡◌};
-    ghost use Rattle.pop_net.specs.NetModel.{NetModel, IsNet};
+    ghost use Rattle.pop_leaf.specs.NetModel.{NetModel, IsNet};
     ghost use Rattle.pop_net.specs.LaneWidth.{width_of};
 
     ghost Value = { NetModel };
@@ -62,8 +40,8 @@ impl Model for Net {
 }
 
 impl Net {
-    ghost use Rattle.pop_net.specs.NetModel.{IsNet, state_of, output_of, number_of_helpers};
-    ghost use Rattle.pop_net.specs.InputCrowd.{start_of, helper_of};
+    ghost use Rattle.pop_leaf.specs.NetModel.{IsNet, state_of, output_of, number_of_helpers};
+    ghost use Rattle.pop_leaf.specs.InputCrowd.{start_of, helper_of};
     ghost use Rattle.pop_net.specs.Lanes.{tuple_of, IsValid};
     ghost use Rattle.pop_net.specs.Promises.{MakesNet, NetReacts, IsWordOf, StartsAs};
 

@@ -2,13 +2,12 @@
 
 ghost use Rattle.std.specs.Prelude.{◌≡◌, ◌<◌, ◌&&◌, [], length, Some};
 ghost use Rattle.std.specs.Bool.{OnTrue};
-ghost use Rattle.pop_net.specs.NetModel.{after_item, depth_operators};
+ghost use Rattle.pop_leaf.specs.NetModel.{after_item, depth_operators};
 ghost use Rattle.pop_net.specs.NetFaults.{names_below, are_low};
 
 use crate::combination::put_depth;
-use crate::limits::{DEPTH_LIMIT, ITEM_LIMIT};
-use crate::net::Item;
 use crate::operands::Operands;
+use pop_leaf::{DEPTH_LIMIT, ITEM_LIMIT, Item};
 use std::marker::Model;
 
 /// The trees left open by the items so far. Contracts see their depths, the newest first.
@@ -19,7 +18,7 @@ pub struct OpenTrees {
 
 impl Model for OpenTrees {
     ghost use Rattle.std.specs.Prelude.{List, ℕ, ◌≤◌, All};
-    ghost use Rattle.pop_net.specs.declared.limits.TheConstants.{DEPTH_LIMIT};
+    ghost use Rattle.pop_leaf.specs.declared.limits.TheConstants.{DEPTH_LIMIT};
 
     ghost Value = { List ℕ };
 

@@ -2,7 +2,7 @@
 
 ghost use Rattle.std.specs.Prelude.{◌≡◌, ◌<◌, ◌∷◌, [], length, Some, None, MatchOption};
 
-use crate::limits::ITEM_LIMIT;
+use pop_leaf::ITEM_LIMIT;
 use std::marker::Model;
 
 /// A stack of operands. Contracts see the list of them, the newest first.
@@ -15,7 +15,7 @@ pub(crate) struct Operands<T> {
 impl<T> Model for Operands<T> {
     ghost use Rattle.std.specs.Prelude.{◌≡◌, List, ◌≤◌, length, take, reverse};
     ghost use Rattle.std.specs.Coded.{coded_list};
-    ghost use Rattle.pop_net.specs.declared.limits.TheConstants.{ITEM_LIMIT};
+    ghost use Rattle.pop_leaf.specs.declared.limits.TheConstants.{ITEM_LIMIT};
 
     ghost Value = { List T };
 

@@ -1,14 +1,14 @@
 //! Operations on packed words, leaf by leaf.
 
 ghost use Rattle.std.specs.Prelude.{◌≡◌, ◌*◌, ◌^◌, ◌<◌, ◌≤◌, ◌↔◌, length, map, take, All, IsTrue, slice_index};
-ghost use Rattle.pop_net.specs.NetModel.{AreStates, leaf_outputs};
-ghost use Rattle.pop_net.specs.Reaction.{reactions};
+ghost use Rattle.pop_leaf.specs.NetModel.{AreStates, leaf_outputs};
+ghost use Rattle.pop_leaf.specs.Reaction.{reactions};
 ghost use Rattle.pop_net.specs.LaneWidth.{bits_of};
 ghost use Rattle.pop_net.specs.Lanes.{digits};
 
 use crate::lanes::LaneWidth;
-use crate::leaf::Leaf;
-use crate::limits::{LEAF_LIMIT, WORD_BITS};
+use crate::limits::WORD_BITS;
+use pop_leaf::{LEAF_LIMIT, Leaf};
 
 /// Each leaf reacts by itself.
 pub(crate) fn react_words(lanes: LaneWidth, leaves: &[Leaf], a: u64, b: u64) -> (u64, u64)

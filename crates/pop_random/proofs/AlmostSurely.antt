@@ -7,11 +7,11 @@ use Rattle.std.proofs.lemmas.List.FromFn.{length-range_with_len}
 use Rattle.std.proofs.lemmas.List.Elements.{All-head, All-tail}
 use Rattle.pres_ast.specs.PredTree.{PredTree}
 use Rattle.pres_ast.specs.PredicateValue.{predicate_value}
-use Rattle.pop_net.specs.NetModel.{NetModel, CrowdModel, IsTuple, number_of_helpers}
-use Rattle.pop_net.specs.InputCrowd.{IsInput, input_crowd, starts_from, start_of, helper_of}
-use Rattle.pop_net.specs.Step.{TupleChange, Step}
-use Rattle.pop_net.specs.Reachable.{Leads, Reachable}
-use Rattle.pop_net.specs.Terminal.{IsTerminal}
+use Rattle.pop_leaf.specs.NetModel.{NetModel, CrowdModel, IsTuple, number_of_helpers}
+use Rattle.pop_leaf.specs.InputCrowd.{IsInput, input_crowd, starts_from, start_of, helper_of}
+use Rattle.pop_leaf.specs.Step.{TupleChange, Step}
+use Rattle.pop_leaf.specs.Reachable.{Leads, Reachable}
+use Rattle.pop_leaf.specs.Terminal.{IsTerminal}
 use Rattle.pop_net.proofs.Tuples.{leads_length, reachable_tuples, input_tuples, length-starts_from}
 use Rattle.pop_crowd.proofs.Reached.{length-after_meeting}
 use Rattle.pop_random.specs.UniformRuns.{after_run}

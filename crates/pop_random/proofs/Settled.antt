@@ -6,11 +6,11 @@ use Rattle.std.proofs.lemmas.List.{length-set, get_or-set_same, get_or-set_other
 use Rattle.std.proofs.lemmas.List.Sums.{AllPass-from_list_all, list_all-from_AllPass}
 use Rattle.std.proofs.lemmas.Option.{slice_get-get_or}
 use Rattle.std.proofs.lemmas.List.Elements.{All-get_or}
-use Rattle.pop_net.specs.NetModel.{NetModel, Tuple, CrowdModel, IsTuple, output_of}
-use Rattle.pop_net.specs.Step.{Step}
-use Rattle.pop_net.specs.Terminal.{IsTerminal}
-use Rattle.pop_net.specs.Reaction.{reaction}
-use Rattle.pop_net.proofs.Reactions.{and_left, and_right, reaction_step}
+use Rattle.pop_leaf.specs.NetModel.{NetModel, Tuple, CrowdModel, IsTuple, output_of}
+use Rattle.pop_leaf.specs.Step.{Step}
+use Rattle.pop_leaf.specs.Terminal.{IsTerminal}
+use Rattle.pop_leaf.specs.Reaction.{reaction}
+use Rattle.pop_leaf.proofs.Reactions.{and_left, and_right, reaction_step}
 use Rattle.pop_crowd.specs.Replay.{changes}
 use Rattle.pop_crowd.proofs.Unmoved.{moved}
 use Rattle.terminal_test.proofs.Ends.{terminal_without}

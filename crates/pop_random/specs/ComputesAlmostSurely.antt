@@ -2,11 +2,11 @@
 use Rattle.std.specs.Prelude.{◌≡◌, ℕ, ◌*◌, ◌-◌, ◌^◌, ◌<◌, ◌≤◌, Bool, true, Decides, List, length, All, Contains}
 use Rattle.pres_ast.specs.PredTree.{PredTree}
 use Rattle.pres_ast.specs.PredicateValue.{predicate_value}
-use Rattle.pop_net.specs.NetModel.{NetModel, CrowdModel, number_of_helpers, output_of}
-use Rattle.pop_net.specs.InputCrowd.{IsInput, input_crowd}
-use Rattle.pop_net.specs.Step.{Step}
-use Rattle.pop_net.specs.Reachable.{Reachable}
-use Rattle.pop_net.specs.Terminal.{IsTerminal}
+use Rattle.pop_leaf.specs.NetModel.{NetModel, CrowdModel, number_of_helpers, output_of}
+use Rattle.pop_leaf.specs.InputCrowd.{IsInput, input_crowd}
+use Rattle.pop_leaf.specs.Step.{Step}
+use Rattle.pop_leaf.specs.Reachable.{Reachable}
+use Rattle.pop_leaf.specs.Terminal.{IsTerminal}
 use Rattle.pop_random.specs.RandomMeetings.{pairs, runs, run_count, cubic, meet, is_settled}
 use Rattle.pop_random.specs.RandomMeetings.{unsettled, total_time}
 

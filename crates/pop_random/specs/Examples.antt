@@ -1,8 +1,8 @@
 -- Examples: three agents of the majority protocol, two of x and one of y, drawn at random.
 use Rattle.std.specs.Prelude.{◌≡◌, [], ◌∷◌, true}
 use Rattle.pop_net.specs.ExampleNets.{majority}
-use Rattle.pop_net.specs.NetModel.{CrowdModel}
-use Rattle.pop_net.specs.InputCrowd.{input_crowd}
+use Rattle.pop_leaf.specs.NetModel.{CrowdModel}
+use Rattle.pop_leaf.specs.InputCrowd.{input_crowd}
 use Rattle.pop_random.specs.RandomMeetings.{pairs, unsettled, total_time}
 
 abbrev pub three_agents : CrowdModel

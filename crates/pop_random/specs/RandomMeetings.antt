@@ -2,8 +2,8 @@
 use Rattle.std.specs.Prelude.{ℕ, ◌*◌, ◌-◌, ◌^◌, Bool, true, false, not, ◌&&◌, ◌==◌, List, map, flat_map, filter, length}
 use Rattle.std.specs.Prelude.{count_by, sum_by}
 use Rattle.std.specs.List.{list_all, range_with_len}
-use Rattle.pop_net.specs.NetModel.{NetModel, CrowdModel, output_of}
-use Rattle.pop_net.specs.Reaction.{after_meeting}
+use Rattle.pop_leaf.specs.NetModel.{NetModel, CrowdModel, output_of}
+use Rattle.pop_leaf.specs.Reaction.{after_meeting}
 use Rattle.pop_crowd.specs.Replay.{changes}
 use Rattle.pop_random.specs.UniformRuns.{lists_of, after_run, time}
 

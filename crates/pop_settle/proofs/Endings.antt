@@ -2,14 +2,14 @@
 use Rattle.std.proofs.Common.{◌≡◌, ◌⊎◌, inl, inr, ℕ, suc, List, [], ◌∷◌, ◌++◌, length, refl, ap, sym, subst, ◌∙◌, arith}
 use Rattle.std.specs.Prelude.{Some, slice_get, slice_set, All}
 use Rattle.std.proofs.lemmas.Option.{slice_get_within, slice_get-get_or}
-use Rattle.pop_net.specs.declared.leaf.Move.{Move}
-use Rattle.pop_net.specs.LeafModel.{LeafModel}
-use Rattle.pop_net.specs.NetModel.{NetModel, CrowdModel, IsTuple}
-use Rattle.pop_net.specs.Step.{Follows, LeafChange, LeafMove, LeafStep, Step}
-use Rattle.pop_net.specs.Reachable.{Leads}
-use Rattle.pop_net.specs.Terminal.{IsTerminal}
+use Rattle.pop_leaf.specs.declared.leaf.Move.{Move}
+use Rattle.pop_leaf.specs.LeafModel.{LeafModel}
+use Rattle.pop_leaf.specs.NetModel.{NetModel, CrowdModel, IsTuple}
+use Rattle.pop_leaf.specs.Step.{Follows, LeafChange, LeafMove, LeafStep, Step}
+use Rattle.pop_leaf.specs.Reachable.{Leads}
+use Rattle.pop_leaf.specs.Terminal.{IsTerminal}
 use Rattle.pop_net.proofs.Lifting.{terminal_from_components}
-use Rattle.pop_net.proofs.Quiet.{set_same}
+use Rattle.pop_leaf.proofs.Quiet.{set_same}
 use Rattle.cert_base.specs.declared.proof.Proof.{Proof}
 use Rattle.cert_base.specs.declared.proof.LeafProof.{LeafProof}
 use Rattle.cert_base.specs.ValidLayers.{ValidLayers}

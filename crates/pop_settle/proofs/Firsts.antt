@@ -1,9 +1,9 @@
 -- The first take of a quiet crowd's layer is the least that can be made.
 use Rattle.std.proofs.Common.{◌≡◌, inl, inr, ℕ, ◌<◌, sym, subst}
 use Rattle.std.specs.Prelude.{Some, slice_get}
-use Rattle.pop_net.specs.declared.leaf.Move.{Move}
-use Rattle.pop_net.specs.LeafModel.{LeafModel}
-use Rattle.pop_net.specs.NetModel.{NetModel, CrowdModel}
+use Rattle.pop_leaf.specs.declared.leaf.Move.{Move}
+use Rattle.pop_leaf.specs.LeafModel.{LeafModel}
+use Rattle.pop_leaf.specs.NetModel.{NetModel, CrowdModel}
 use Rattle.cert_base.specs.declared.layer.Layer.{Layer}
 use Rattle.cert_base.specs.declared.proof.Proof.{Proof}
 use Rattle.cert_base.specs.declared.proof.LeafProof.{LeafProof}

@@ -6,12 +6,12 @@ use Rattle.std.proofs.lemmas.Bool.{eq-eqb, both_ways}
 use Rattle.std.proofs.lemmas.Bool.Decides.{eqb_tells}
 use Rattle.std.proofs.lemmas.List.{set-set, set_comm}
 use Rattle.std.proofs.lemmas.Option.{slice_get_within, same_Some}
-use Rattle.pop_net.specs.declared.leaf.Move.{Move}
-use Rattle.pop_net.specs.LeafModel.{silent_move}
+use Rattle.pop_leaf.specs.declared.leaf.Move.{Move}
+use Rattle.pop_leaf.specs.LeafModel.{silent_move}
 use Rattle.pop_settle.specs.Settlement.{CanMake, Then}
 use Rattle.pop_settle.specs.Groups.{holds, AreAlike, AreGroups, IsEmptyGroup, IsLeastOf, Changes, Puts, Takes, IsLeastPairFor, states_after_move}
 use Rattle.list_laws.proofs.Lists.{slice_get-set_same, slice_get-set_apart}
-use Rattle.pop_net.proofs.Quiet.{set_same}
+use Rattle.pop_leaf.proofs.Quiet.{set_same}
 
 -- what Changes says at the changed place, and elsewhere
 at_change : (there : Bool) (g : List (BTreeSet ℕ)) (q a : ℕ) (after : List (BTreeSet ℕ)) → Changes there g q a after → holds after q a ≡ there

@@ -8,11 +8,11 @@ use Rattle.std.proofs.lemmas.List.{length-map}
 use Rattle.std.proofs.lemmas.List.Sums.{sum_by-cons, sum_by-drop_more}
 use Rattle.std.proofs.lemmas.List.Elements.{All-map, All-weaker}
 use Rattle.std.proofs.lemmas.Option.{slice_get_within, get_or_from_slice_get}
-use Rattle.pop_net.specs.LeafModel.{LeafModel, IsLeaf}
-use Rattle.pop_net.specs.NetModel.{NetModel, CrowdModel, IsNet, IsTuple, HasStates, state_of}
-use Rattle.pop_net.proofs.Quiet.{All-slice_get}
+use Rattle.pop_leaf.specs.LeafModel.{LeafModel, IsLeaf}
+use Rattle.pop_leaf.specs.NetModel.{NetModel, CrowdModel, IsNet, IsTuple, HasStates, state_of}
+use Rattle.pop_leaf.proofs.Quiet.{All-slice_get}
 use Rattle.pop_net.proofs.Tuples.{meets_length}
-use Rattle.pop_net.specs.Step.{TupleChange}
+use Rattle.pop_leaf.specs.Step.{TupleChange}
 use Rattle.cert_base.specs.declared.layer.Layer.{Layer}
 use Rattle.cert_base.specs.declared.proof.Proof.{Proof}
 use Rattle.cert_base.specs.declared.proof.LeafProof.{LeafProof}

@@ -4,8 +4,8 @@ use Rattle.std.specs.Prelude.{Some, slice_get}
 use Rattle.std.specs.BTreeSet.{BTreeSet}
 use Rattle.std.proofs.lemmas.Bool.{cases_lt, both_ways}
 use Rattle.std.proofs.lemmas.Option.{slice_get-get_or}
-use Rattle.pop_net.specs.declared.leaf.Move.{Move}
-use Rattle.pop_net.specs.LeafModel.{LeafModel}
+use Rattle.pop_leaf.specs.declared.leaf.Move.{Move}
+use Rattle.pop_leaf.specs.LeafModel.{LeafModel}
 use Rattle.pop_settle.specs.Groups.{holds, AreGroups, IsEmptyGroup}
 use Rattle.pop_settle.specs.Search.{IsIdle, BeginAlike, IsStretch}
 use Rattle.list_laws.proofs.Options.{same_value, item_within}

@@ -3,11 +3,11 @@ use Rattle.std.proofs.Common.{◌≡◌, ◌≢◌, inr, ℕ, ◌<◌, [], lengt
 use Rattle.std.specs.Prelude.{Some, slice_get, slice_set, slice_index_or, All}
 use Rattle.std.proofs.lemmas.List.{length-map, get_or-set_same, get_or-set_other}
 use Rattle.std.proofs.lemmas.Option.{slice_get_within, slice_get-get_or}
-use Rattle.pop_net.specs.NetModel.{NetModel, Tuple, CrowdModel, IsTuple, state_of}
-use Rattle.pop_net.specs.Step.{LeafChange, LeafStep, Step}
+use Rattle.pop_leaf.specs.NetModel.{NetModel, Tuple, CrowdModel, IsTuple, state_of}
+use Rattle.pop_leaf.specs.Step.{LeafChange, LeafStep, Step}
 use Rattle.pop_net.proofs.Lifting.{lift_change}
 use Rattle.pop_net.proofs.Projection.{component, component-set, slice_get-component}
-use Rattle.pop_net.proofs.Quiet.{All-slice_get, set_same}
+use Rattle.pop_leaf.proofs.Quiet.{All-slice_get, set_same}
 use Rattle.pop_net.proofs.Tuples.{step_tuples}
 use Rattle.cert_base.specs.declared.proof.Proof.{Proof}
 use Rattle.cert_base.proofs.Agents.{move_change, move_step}

@@ -3,7 +3,7 @@ use Rattle.std.specs.Prelude.{◌≡◌, ℕ, ◌<◌, ◌≤◌, ◌↔◌, Boo
 use Rattle.std.specs.Prelude.{[], length, Option, Some, None, slice_get, slice_set, slice_index_or}
 use Rattle.std.specs.Ordering.{nat_cmp}
 use Rattle.std.specs.BTreeSet.{BTreeSet, contains}
-use Rattle.pop_net.specs.declared.leaf.Move.{Move}
+use Rattle.pop_leaf.specs.declared.leaf.Move.{Move}
 use Rattle.pop_settle.specs.Settlement.{CanMake, Then}
 
 abbrev pub group_at : List (BTreeSet ℕ) → ℕ → BTreeSet ℕ

@@ -1,8 +1,8 @@
 -- Laws of settlements.
 use Rattle.std.specs.Prelude.{◌≡◌, ℕ, ◌*◌, ◌≤◌, List, length, All}
-use Rattle.pop_net.specs.NetModel.{NetModel, CrowdModel, IsNet, IsTuple, HasStates}
-use Rattle.pop_net.specs.Step.{Step}
-use Rattle.pop_net.specs.Terminal.{IsTerminal}
+use Rattle.pop_leaf.specs.NetModel.{NetModel, CrowdModel, IsNet, IsTuple, HasStates}
+use Rattle.pop_leaf.specs.Step.{Step}
+use Rattle.pop_leaf.specs.Terminal.{IsTerminal}
 use Rattle.cert_base.specs.declared.proof.Proof.{Proof}
 use Rattle.cert_base.specs.ProofBound.{proof_bound}
 use Rattle.pop_settle.specs.declared.take.Take.{Take}

@@ -1,9 +1,9 @@
 -- Settlement: the takes that lead by a proof's layers to a crowd in which none can be made.
 use Rattle.std.specs.Prelude.{◌≡◌, ◌≢◌, ◌⊎◌, ℕ, ◌<◌, false, List, [], ◌∷◌, map, Some, slice_get, slice_set}
 use Rattle.std.specs.Prelude.{slice_index_or}
-use Rattle.pop_net.specs.declared.leaf.Move.{Move}
-use Rattle.pop_net.specs.LeafModel.{LeafModel, silent_move}
-use Rattle.pop_net.specs.NetModel.{NetModel, Tuple, CrowdModel, state_of}
+use Rattle.pop_leaf.specs.declared.leaf.Move.{Move}
+use Rattle.pop_leaf.specs.LeafModel.{LeafModel, silent_move}
+use Rattle.pop_leaf.specs.NetModel.{NetModel, Tuple, CrowdModel, state_of}
 use Rattle.cert_base.specs.declared.layer.Layer.{Layer}
 use Rattle.cert_base.specs.declared.proof.Proof.{Proof}
 use Rattle.cert_base.specs.declared.proof.LeafProof.{LeafProof}

@@ -1,11 +1,11 @@
 -- Settles: what `settle` says of a net, a proof of it and a crowd's words.
 use Rattle.std.specs.Prelude.{◌≡◌, ◌*◌, ◌≤◌, List, length, Result, IfOk}
 use Rattle.pop_net.specs.declared.net.Word.{Word}
-use Rattle.pop_net.specs.NetModel.{NetModel}
+use Rattle.pop_leaf.specs.NetModel.{NetModel}
 use Rattle.pop_net.specs.Lanes.{crowd_of, AreValid}
-use Rattle.pop_net.specs.Step.{Step}
-use Rattle.pop_net.specs.Reachable.{ReachedWithin}
-use Rattle.pop_net.specs.Terminal.{IsTerminal}
+use Rattle.pop_leaf.specs.Step.{Step}
+use Rattle.pop_leaf.specs.Reachable.{ReachedWithin}
+use Rattle.pop_leaf.specs.Terminal.{IsTerminal}
 use Rattle.cert_base.specs.declared.proof.Proof.{Proof}
 use Rattle.cert_base.specs.ProofBound.{proof_bound}
 use Rattle.pop_settle.specs.declared.limits.TheConstants.{TAKE_LIMIT}

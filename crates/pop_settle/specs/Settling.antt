@@ -1,7 +1,7 @@
 -- When a crowd is settled, and when it is not.
 use Rattle.std.specs.Prelude.{◌≡◌, ℕ, ◌*◌, ◌<◌, ◌≤◌, length, All, Some, slice_get}
-use Rattle.pop_net.specs.LeafModel.{LeafModel}
-use Rattle.pop_net.specs.NetModel.{NetModel}
+use Rattle.pop_leaf.specs.LeafModel.{LeafModel}
+use Rattle.pop_leaf.specs.NetModel.{NetModel}
 use Rattle.cert_base.specs.declared.limits.TheConstants.{LAYER_LIMIT}
 use Rattle.cert_base.specs.declared.proof.Proof.{Proof}
 use Rattle.cert_base.specs.declared.proof.LeafProof.{LeafProof}

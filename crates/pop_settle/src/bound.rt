@@ -1,7 +1,7 @@
 //! How many takes a proof allows.
 
 ghost use Rattle.std.specs.Prelude.{◌≡◌, ◌*◌, ◌≤◌, length};
-ghost use Rattle.pop_net.specs.declared.limits.TheConstants.{LEAF_LIMIT as MOST_LEAVES};
+ghost use Rattle.pop_leaf.specs.declared.limits.TheConstants.{LEAF_LIMIT as MOST_LEAVES};
 ghost use Rattle.pop_crowd.specs.declared.limits.TheConstants.{AGENT_LIMIT as MOST_AGENTS};
 ghost use Rattle.cert_base.specs.ProofBound.{proof_bound};
 ghost use Rattle.pop_settle.specs.Settling.{AreFewLayers};

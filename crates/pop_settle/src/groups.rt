@@ -1,7 +1,7 @@
 //! The agents of a leaf, by their states.
 
 ghost use Rattle.std.specs.Prelude.{◌≡◌, ℕ, ◌<◌, ◌≤◌, List, [], length, IfOk, IfSome, IfNone, OnOk, IsTrue, slice_get};
-ghost use Rattle.pop_net.specs.LeafModel.{IsMoveBelow};
+ghost use Rattle.pop_leaf.specs.LeafModel.{IsMoveBelow};
 ghost use Rattle.pop_net.specs.Lanes.{crowd_of, AreValid};
 ghost use Rattle.pop_crowd.specs.declared.limits.TheConstants.{AGENT_LIMIT};
 ghost use Rattle.pop_settle.specs.Settlement.{states_in};

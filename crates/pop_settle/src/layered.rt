@@ -1,7 +1,7 @@
 //! What the steps of settling have in common.
 
 ghost use Rattle.std.specs.Prelude.{◌<◌, length, All};
-ghost use Rattle.pop_net.specs.LeafModel.{IsLeaf};
+ghost use Rattle.pop_leaf.specs.LeafModel.{IsLeaf};
 ghost use Rattle.pop_settle.specs.Search.{AreRunEnds};
 
 use cert_base::{Layer, Proof};

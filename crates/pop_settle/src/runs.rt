@@ -1,7 +1,7 @@
 //! Runs of moves with the same first state.
 
 ghost use Rattle.std.specs.Prelude.{◌≡◌, ℕ, ◌+◌, ◌<◌, length, All, Some, IfOk, IsTrue, slice_get};
-ghost use Rattle.pop_net.specs.declared.leaf.Move.{Move};
+ghost use Rattle.pop_leaf.specs.declared.leaf.Move.{Move};
 ghost use Rattle.pop_settle.specs.Search.{AreRunEnds, IsStretch};
 
 use pop_io::NoMemory;

@@ -2,7 +2,7 @@
 
 ghost use Rattle.std.specs.Prelude.{◌≡◌, ℕ, ◌+◌, ◌<◌, ◌≤◌, List, length, Some, IfOk, IfSome, OnOk};
 ghost use Rattle.std.specs.Prelude.{slice_get};
-ghost use Rattle.pop_net.specs.NetModel.{IsNet};
+ghost use Rattle.pop_leaf.specs.NetModel.{IsNet};
 ghost use Rattle.pop_net.specs.Lanes.{crowd_of, AreValid};
 ghost use Rattle.pop_crowd.specs.declared.limits.TheConstants.{AGENT_LIMIT};
 ghost use Rattle.pop_settle.specs.Settlement.{states_in};

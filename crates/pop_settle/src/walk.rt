@@ -1,7 +1,7 @@
 //! The takes so far, and the crowd that they led to.
 
 ghost use Rattle.std.specs.Prelude.{◌≡◌, ◌≢◌, ◌<◌, [], ◌∷◌, ◌++◌, length, IfOk, IfSome, OnOk, slice_get, slice_set};
-ghost use Rattle.pop_net.specs.NetModel.{IsNet};
+ghost use Rattle.pop_leaf.specs.NetModel.{IsNet};
 ghost use Rattle.pop_net.specs.Lanes.{crowd_of, AreValid};
 ghost use Rattle.pop_settle.specs.Settlement.{tuple_with_state};
 ghost use Rattle.pop_settle.specs.Walks.{TakesTo};

@@ -2,7 +2,7 @@
 use Rattle.std.specs.Prelude.{ℕ, List, [], ◌++◌, codes, map, slice_index_or}
 use Rattle.std.specs.List.{concat, range_with_len}
 use Rattle.pop_lines.specs.Lines.{ended}
-use Rattle.pop_net.specs.declared.leaf.Move.{Move}
+use Rattle.pop_leaf.specs.declared.leaf.Move.{Move}
 
 -- the text of these lines
 abbrev pub text_of : List (List ℕ) → List ℕ

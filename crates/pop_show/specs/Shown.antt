@@ -3,9 +3,9 @@ use Rattle.std.specs.Prelude.{ℕ, List, ◌∷◌, ◌++◌, length, codes, dec
 use Rattle.std.specs.List.{flat_map}
 use Rattle.pres_ast.specs.PredModel.{PredModel}
 use Rattle.pres_read.specs.Canonical.{tree_text}
-use Rattle.pop_net.specs.NetModel.{NetModel}
-use Rattle.pop_net.specs.declared.net.Item.{Item}
-use Rattle.pop_net.specs.declared.net.Item.TheVariants.{Leaf, Not, And, Or}
+use Rattle.pop_leaf.specs.NetModel.{NetModel}
+use Rattle.pop_leaf.specs.declared.item.Item.{Item}
+use Rattle.pop_leaf.specs.declared.item.Item.TheVariants.{Leaf, Not, And, Or}
 use Rattle.cert_base.specs.declared.proof.Proof.{Proof}
 use Rattle.pop_show.specs.Lines.{below, each, spaced, name_at}
 use Rattle.pop_show.specs.LeafLines.{leaf_lines}

@@ -5,7 +5,7 @@ ghost use Rattle.std.specs.Fmt.{signed_decimal};
 ghost use Rattle.pop_lines.specs.Lines.{ended};
 ghost use Rattle.pop_io.specs.Names.{variable_name, AreNames};
 ghost use Rattle.pres_read.specs.Canonical.{tree_text};
-ghost use Rattle.pop_net.specs.LeafModel.{IsMoveBelow};
+ghost use Rattle.pop_leaf.specs.LeafModel.{IsMoveBelow};
 ghost use Rattle.pop_show.specs.Lines.{each, spaced, name_at, pair_text, move_text};
 
 use crate::list::{Texts, push_all};

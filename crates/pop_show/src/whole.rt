@@ -68,7 +68,7 @@ fn push_item(out: &mut Vec<u8>, item: Item) -> Result<(), AllocError>
 
 impl Texts for Combination<'_> {
     ghost use Rattle.std.specs.Prelude.{⊤, length, slice_index_or};
-    ghost use Rattle.pop_net.specs.declared.net.Item.TheVariants.{Not};
+    ghost use Rattle.pop_leaf.specs.declared.item.Item.TheVariants.{Not};
     ghost use Rattle.pop_show.specs.Lines.{spaced};
     ghost use Rattle.pop_show.specs.Shown.{item_text};
 

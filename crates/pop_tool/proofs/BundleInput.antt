@@ -1,7 +1,7 @@
 -- The order in which a bundle and a crowd line are examined, what they are, and what a valid proof in a bundle shows.
 use Rattle.std.proofs.Common.{◌≡◌, ℕ, List, length, Some, Ok, refl, sym, subst, ◌∙◌}
-use Rattle.pop_net.specs.NetModel.{number_of_helpers}
-use Rattle.pop_net.specs.InputCrowd.{IsInput}
+use Rattle.pop_leaf.specs.NetModel.{number_of_helpers}
+use Rattle.pop_leaf.specs.InputCrowd.{IsInput}
 use Rattle.serde_json.specs.Data.{Data}
 use Rattle.cert_base.specs.ProofBound.{proof_bound}
 use Rattle.cert_json.specs.declared.bundle.Bundle.{Bundle}

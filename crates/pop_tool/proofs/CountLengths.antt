@@ -5,7 +5,7 @@ use Rattle.std.specs.Str.{bytes_eq}
 use Rattle.std.proofs.lemmas.List.{length-set, length-map}
 use Rattle.list_laws.proofs.Options.{some_before}
 use Rattle.pop_lines.specs.Lines.{pieces}
-use Rattle.pop_net.specs.NetModel.{NetModel}
+use Rattle.pop_leaf.specs.NetModel.{NetModel}
 use Rattle.pop_crowd.specs.Crowds.{input_size}
 use Rattle.pop_words.specs.Counts.{entry_of, with_entry, with_word, with_words, counts_behind, with_zeros, counts_of}
 use Rattle.tool_texts.specs.declared.refusal.Refusal.{Refusal}

@@ -1,8 +1,8 @@
 -- A journal that is read and holds is the text of a run, and no other text is.
 use Rattle.std.proofs.Common.{◌≡◌, ◌⊎◌, inl, inr, ℕ, ◌*◌, ◌≤◌, List, ◌∷◌, ◌++◌, codes, length, None, Ok, sym, ap, subst, ◌∙◌, arith}
 use Rattle.pop_lines.specs.Lines.{lines_of}
-use Rattle.pop_net.specs.NetModel.{CrowdModel}
-use Rattle.pop_net.specs.InputCrowd.{input_crowd}
+use Rattle.pop_leaf.specs.NetModel.{CrowdModel}
+use Rattle.pop_leaf.specs.InputCrowd.{input_crowd}
 use Rattle.pop_crowd.specs.declared.crowd.Meeting.{Meeting}
 use Rattle.pop_crowd.specs.declared.limits.TheConstants.{AGENT_LIMIT}
 use Rattle.run_spec.specs.declared.kind.RunKind.{RunKind}

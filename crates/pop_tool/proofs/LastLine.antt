@@ -1,9 +1,9 @@
 -- The last line of a journal is that of its last crowd.
 use Rattle.std.proofs.Common.{◌≡◌, ℕ, Option, Some, None, refl, sym, ap, ◌∙◌}
 use Rattle.std.specs.Prelude.{is_none, All}
-use Rattle.pop_net.specs.NetModel.{NetModel, CrowdModel, IsTuple}
-use Rattle.pop_net.specs.Step.{Step}
-use Rattle.pop_net.specs.Terminal.{IsTerminal}
+use Rattle.pop_leaf.specs.NetModel.{NetModel, CrowdModel, IsTuple}
+use Rattle.pop_leaf.specs.Step.{Step}
+use Rattle.pop_leaf.specs.Terminal.{IsTerminal}
 use Rattle.terminal_test.specs.Pairs.{IsLeastPair}
 use Rattle.terminal_test.proofs.Ends.{not_terminal}
 use Rattle.journal_text.specs.declared.last.Last.{Last}

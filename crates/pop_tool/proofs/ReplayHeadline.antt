@@ -5,8 +5,8 @@ use Rattle.std.proofs.lemmas.Bool.{le-ltb, ltb-false}
 use Rattle.std.proofs.lemmas.List.{append_cancel_right}
 use Rattle.pop_io.specs.declared.whole.TheConstants.{INPUT_LIMIT}
 use Rattle.pop_lines.specs.Lines.{lines_of, ended}
-use Rattle.pop_net.specs.NetModel.{CrowdModel}
-use Rattle.pop_net.specs.InputCrowd.{input_crowd}
+use Rattle.pop_leaf.specs.NetModel.{CrowdModel}
+use Rattle.pop_leaf.specs.InputCrowd.{input_crowd}
 use Rattle.pop_net.proofs.Tuples.{input_tuples}
 use Rattle.pop_crowd.specs.declared.limits.TheConstants.{AGENT_LEAST, AGENT_LIMIT}
 use Rattle.run_spec.specs.declared.kind.RunKind.{RunKind}

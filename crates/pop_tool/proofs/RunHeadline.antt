@@ -4,9 +4,9 @@ use Rattle.std.specs.Prelude.{◌↔◌, ◌⊎◌, All, MatchBool}
 use Rattle.pop_io.specs.declared.whole.TheConstants.{INPUT_LIMIT}
 use Rattle.pop_lines.specs.Lines.{lines_of, ended}
 use Rattle.pres_ast.specs.PredicateValue.{predicate_value}
-use Rattle.pop_net.specs.NetModel.{NetModel, CrowdModel, IsTuple}
-use Rattle.pop_net.specs.Step.{Step}
-use Rattle.pop_net.specs.Terminal.{IsTerminal}
+use Rattle.pop_leaf.specs.NetModel.{NetModel, CrowdModel, IsTuple}
+use Rattle.pop_leaf.specs.Step.{Step}
+use Rattle.pop_leaf.specs.Terminal.{IsTerminal}
 use Rattle.terminal_test.proofs.Ends.{not_terminal}
 use Rattle.run_spec.specs.declared.kind.RunKind.{RunKind}
 use Rattle.run_spec.specs.declared.kind.RunKind.TheVariants.{Whole, Watched}

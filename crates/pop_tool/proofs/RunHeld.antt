@@ -6,8 +6,8 @@ use Rattle.std.proofs.lemmas.List.Elements.{All-head, All-tail}
 use Rattle.pop_io.specs.declared.whole.TheConstants.{INPUT_LIMIT}
 use Rattle.pop_lines.specs.Lines.{lines_of, ended}
 use Rattle.pop_lines.proofs.Joined.{lines-joined}
-use Rattle.pop_net.specs.NetModel.{CrowdModel, IsTuple}
-use Rattle.pop_net.specs.InputCrowd.{input_crowd}
+use Rattle.pop_leaf.specs.NetModel.{CrowdModel, IsTuple}
+use Rattle.pop_leaf.specs.InputCrowd.{input_crowd}
 use Rattle.run_spec.specs.declared.kind.RunKind.{RunKind}
 use Rattle.run_spec.specs.declared.kind.RunKind.TheVariants.{Whole, Watched}
 use Rattle.run_spec.specs.declared.spec.RunSpec.{RunSpec}

@@ -3,7 +3,7 @@ use Rattle.std.proofs.Common.{◌≡◌, ◌⊎◌, inl, inr, ℕ, Bool, true, f
 use Rattle.std.specs.Prelude.{MatchBool}
 use Rattle.pop_io.specs.declared.whole.TheConstants.{INPUT_LIMIT}
 use Rattle.pop_lines.specs.Lines.{lines_of}
-use Rattle.pop_net.specs.InputCrowd.{input_crowd}
+use Rattle.pop_leaf.specs.InputCrowd.{input_crowd}
 use Rattle.pop_net.proofs.Tuples.{input_tuples}
 use Rattle.pop_words.specs.declared.command.Command.TheVariants.{Settle}
 use Rattle.cert_json.specs.declared.bundle.Bundle.{Bundle}

@@ -4,10 +4,10 @@ use Rattle.serde_json.specs.Data.{Data}
 use Rattle.pop_io.specs.declared.whole.TheConstants.{INPUT_LIMIT}
 use Rattle.pop_lines.specs.Lines.{lines_of, ended}
 use Rattle.pres_ast.specs.PredicateValue.{predicate_value}
-use Rattle.pop_net.specs.NetModel.{CrowdModel}
-use Rattle.pop_net.specs.InputCrowd.{input_crowd}
-use Rattle.pop_net.specs.Step.{Step}
-use Rattle.pop_net.specs.Reachable.{Reachable}
+use Rattle.pop_leaf.specs.NetModel.{CrowdModel}
+use Rattle.pop_leaf.specs.InputCrowd.{input_crowd}
+use Rattle.pop_leaf.specs.Step.{Step}
+use Rattle.pop_leaf.specs.Reachable.{Reachable}
 use Rattle.pop_crowd.specs.declared.crowd.Meeting.{Meeting}
 use Rattle.run_spec.specs.declared.kind.RunKind.{RunKind}
 use Rattle.run_spec.specs.declared.spec.RunSpec.{RunSpec}
@@ -51,8 +51,8 @@ abbrev pub SaysStable : ℕ → List ℕ → Status → Type 0
 SaysStable bound text status = (text ≡ ended (stable_text bound)) × (status ≡ Done)
 
 -- `stable` is printed, with the bound, exactly when the proof is valid. Then at most so many steps for each agent lead
--- from every crowd on the way to one from which on every agent outputs the predicate's value, whatever happens. So every
--- fair execution from an input stabilises to it, though agents may go on changing.
+-- from every crowd on the way to one from which on every agent outputs the predicate's value, whatever happens. So
+-- every fair execution from an input stabilises to it, though agents may go on changing.
 pub record StableSays (bundle : StableBundle) (text : List ℕ) (status : Status) : Type 0 where
   pub stable : SaysStable (stable_bound bundle.proof) text status ↔ HasValidGoals bundle
   pub right : HasValidGoals bundle → IsStablyRight bundle.net bundle.pred.tree (stable_bound bundle.proof)
@@ -118,8 +118,8 @@ pub record StableRunSays (kind : RunKind) (spec : RunSpec) (input text : List �
   pub undecided : (status ≡ Undecided) ↔ ¬ IsResting bundle.net bundle.proof counts end
 
 -- The input is a bundle with goals whose proof is valid, a crowd line, and the text of a journal. The journal has
--- rounds that are a run of this kind of the bundle's net from the input crowd, with this many meetings. It ends as `run`
--- ends.
+-- rounds that are a run of this kind of the bundle's net from the input crowd, with this many meetings. It ends as
+-- `run` ends.
 pub record IsStableHeldInput (kind : RunKind) (input : List ℕ) (meetings : ℕ) : Type 0 where
   pub short : length input ≤ INPUT_LIMIT
   pub first : List ℕ

@@ -3,8 +3,8 @@ use Rattle.std.proofs.Common.{◌≡◌, ℕ, suc, ◌+◌, ◌<◌, Bool, true,
 use Rattle.std.proofs.lemmas.Bool.{cases_eq, ne_eqb, eqb-false, eqb-true}
 use Rattle.std.proofs.lemmas.List.{append-nil, map-append}
 use Rattle.std.proofs.lemmas.List.Elements.{All-nil, All-cons, All-append, filter-append}
-use Rattle.pop_net.specs.NetModel.{NetModel, CrowdModel}
-use Rattle.pop_net.specs.Reaction.{after_meeting}
+use Rattle.pop_leaf.specs.NetModel.{NetModel, CrowdModel}
+use Rattle.pop_leaf.specs.Reaction.{after_meeting}
 use Rattle.pop_net.specs.Lanes.{crowd_of}
 use Rattle.pop_net.specs.declared.net.Word.{Word}
 use Rattle.pop_crowd.specs.declared.crowd.Meeting.{Meeting}

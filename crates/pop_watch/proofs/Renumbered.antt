@@ -5,8 +5,8 @@ use Rattle.std.proofs.lemmas.List.{length-map, length-take-le, take_more, drop_m
 use Rattle.std.specs.Prelude.{All}
 use Rattle.std.proofs.lemmas.Bool.{cases_eq, ne_eqb, eqb-false}
 use Rattle.std.proofs.lemmas.List.Elements.{All-head, All-tail, All-nil, All-cons}
-use Rattle.pop_net.specs.NetModel.{NetModel, CrowdModel}
-use Rattle.pop_net.specs.Reaction.{after_meeting}
+use Rattle.pop_leaf.specs.NetModel.{NetModel, CrowdModel}
+use Rattle.pop_leaf.specs.Reaction.{after_meeting}
 use Rattle.pop_crowd.specs.declared.crowd.Meeting.{Meeting}
 use Rattle.pop_crowd.specs.Replay.{replay, AreMarked}
 use Rattle.agent_field.specs.declared.view.Logged.{Logged}

@@ -3,9 +3,9 @@ use Rattle.std.proofs.Common.{◌≡◌, ◌⊎◌, inl, inr, ℕ, ◌+◌, ◌-
 use Rattle.std.specs.Prelude.{Some, slice_get}
 use Rattle.std.proofs.Math.Nat.{le-min}
 use Rattle.std.proofs.lemmas.List.{append-nil, length-append, map-append}
-use Rattle.pop_net.specs.NetModel.{NetModel, CrowdModel}
-use Rattle.pop_net.specs.Step.{Step}
-use Rattle.pop_net.specs.Terminal.{IsTerminal}
+use Rattle.pop_leaf.specs.NetModel.{NetModel, CrowdModel}
+use Rattle.pop_leaf.specs.Step.{Step}
+use Rattle.pop_leaf.specs.Terminal.{IsTerminal}
 use Rattle.pop_crowd.specs.declared.crowd.Meeting.{Meeting}
 use Rattle.run_spec.specs.declared.spec.RunSpec.{RunSpec}
 use Rattle.pair_runs.specs.Picks.{picks, first_state}

@@ -1,6 +1,6 @@
 -- Whole runs are watched runs, whatever net says where they end.
 use Rattle.std.specs.Prelude.{List}
-use Rattle.pop_net.specs.NetModel.{NetModel, CrowdModel}
+use Rattle.pop_leaf.specs.NetModel.{NetModel, CrowdModel}
 use Rattle.pop_crowd.specs.declared.crowd.Meeting.{Meeting}
 use Rattle.run_spec.specs.declared.spec.RunSpec.{RunSpec}
 use Rattle.pair_runs.specs.Run.{IsRunUntil}

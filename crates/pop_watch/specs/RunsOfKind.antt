@@ -1,6 +1,6 @@
 -- Runs of either kind, and their rounds.
 use Rattle.std.specs.Prelude.{ℕ, List}
-use Rattle.pop_net.specs.NetModel.{NetModel}
+use Rattle.pop_leaf.specs.NetModel.{NetModel}
 use Rattle.pop_net.specs.declared.net.Word.{Word}
 use Rattle.pop_crowd.specs.declared.crowd.Meeting.{Meeting}
 use Rattle.run_spec.specs.declared.kind.RunKind.{RunKind}
@@ -15,7 +15,8 @@ use Rattle.pair_workers.specs.WholeRounds.{IsWholeRound}
 use Rattle.pop_watch.specs.Playing.{IsWatchedRoundFrom}
 use Rattle.pop_watch.specs.WatchedEnds.{IsWatchedRunFromUntil}
 
--- a round of a run of this kind by the meetings of the second net, which is over once the crowd is terminal in the first
+-- a round of a run of this kind by the meetings of the second net, which is over once the crowd is terminal in the
+-- first
 abbrev pub IsRoundOf : RunKind → NetModel → NetModel → List Word → ℕ → ℕ → List (List ℕ) → RoundEnd → Type 0
 IsRoundOf Whole rest net crowd workers turns before p = IsWholeRound net crowd workers turns before p
 IsRoundOf Watched rest net crowd workers turns before p = IsWatchedRoundFrom rest net crowd workers turns before p

@@ -1,6 +1,6 @@
 //! Runs that an observer stops within a round once it has seen a terminal crowd, and runs written while they are made.
 //! It stands on `pair_workers`, `agent_field`, `terminal_test` and `journal_text`.
-//! The layer above uses: `push_run` makes and writes a run by `IsWrittenRunOfUntil`, `push_run_alone` by `IsWrittenRunUntil`.
+//! The layer above uses: `push_run` makes a run by `IsWrittenRunOfUntil`, `push_run_alone` by `IsWrittenRunUntil`.
 #![tactic(auto)]
 
 mod alone;

@@ -3,7 +3,8 @@
 use serde_json::Value;
 
 /// A row: a JSON object whose members are read where they are used. It has a `name`. The program is given its `words`
-/// and the pieces of its `input`, must write the pieces of its `text`, and ends with its `status`, one of these numbers.
+/// and the pieces of its `input`, must write the pieces of its `text`, and ends with its `status`, one of these
+/// numbers.
 ///
 /// Some rows say more. The text `begins` with these pieces; those `with` them stand somewhere in it. The `leaves` of a
 /// bundle have so many states each. Each of the `prefixes` of the input, ended by a line feed, is an input of its own.

@@ -5,12 +5,12 @@ use Rattle.std.proofs.lemmas.Bool.{false≢true, cases_order}
 use Rattle.std.proofs.lemmas.List.{length-set, get_or-set_same, get_or-set_other}
 use Rattle.std.proofs.lemmas.Option.{get_or_from_slice_get, slice_get_within, slice_get-get_or}
 use Rattle.std.proofs.lemmas.List.Elements.{All-get_or}
-use Rattle.pop_net.specs.NetModel.{NetModel, Tuple, CrowdModel, IsTuple}
-use Rattle.pop_net.specs.Step.{Step}
-use Rattle.pop_net.specs.Terminal.{IsTerminal}
-use Rattle.pop_net.specs.Reaction.{reaction, after_meeting}
-use Rattle.pop_net.proofs.Quiet.{leaves_quiet, quiet_change, All-slice_get, set_same}
-use Rattle.pop_net.proofs.Reactions.{reaction_step}
+use Rattle.pop_leaf.specs.NetModel.{NetModel, Tuple, CrowdModel, IsTuple}
+use Rattle.pop_leaf.specs.Step.{Step}
+use Rattle.pop_leaf.specs.Terminal.{IsTerminal}
+use Rattle.pop_leaf.specs.Reaction.{reaction, after_meeting}
+use Rattle.pop_leaf.proofs.Quiet.{leaves_quiet, quiet_change, All-slice_get, set_same}
+use Rattle.pop_leaf.proofs.Reactions.{reaction_step}
 use Rattle.pop_crowd.specs.Replay.{reacts, changes}
 use Rattle.terminal_test.specs.Pairs.{IsEnabled, MovesOn}
 use Rattle.pop_crowd.proofs.Unmoved.{still, moved}

@@ -4,8 +4,8 @@ use Rattle.std.specs.Prelude.{Some, All, if◌then◌else◌, slice_get}
 use Rattle.std.proofs.lemmas.List.{take_more}
 use Rattle.std.proofs.lemmas.List.Elements.{All-nil, All-cons, All-head, All-tail}
 use Rattle.std.proofs.lemmas.Option.{get_or_from_slice_get}
-use Rattle.pop_net.specs.declared.leaf.Move.{Move}
-use Rattle.pop_net.specs.LeafModel.{silent_move, IsMoveBelow}
+use Rattle.pop_leaf.specs.declared.leaf.Move.{Move}
+use Rattle.pop_leaf.specs.LeafModel.{silent_move, IsMoveBelow}
 use Rattle.terminal_test.specs.Loud.{pairs_of_moves, ArePairsBelow}
 
 pub pairs_of-append : (xs ys : List Move) → pairs_of_moves (xs ++ ys) ≡ pairs_of_moves xs ++ pairs_of_moves ys

@@ -2,7 +2,7 @@
 use Rattle.std.proofs.Common.{◌≡◌, ℕ, ◌<◌, Bool, List, length, get_or}
 use Rattle.std.proofs.lemmas.List.Elements.{All-map}
 use Rattle.pop_net.specs.declared.net.Word.{Word}
-use Rattle.pop_net.specs.NetModel.{NetModel, output_of}
+use Rattle.pop_leaf.specs.NetModel.{NetModel, output_of}
 use Rattle.pop_net.specs.Lanes.{tuple_of, crowd_of}
 use Rattle.terminal_test.specs.Agreement.{AllOutput}
 

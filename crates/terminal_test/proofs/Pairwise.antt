@@ -3,12 +3,12 @@ use Rattle.std.proofs.Common.{◌≡◌, ℕ, pred, Bool, true, false, not, ◌&
 use Rattle.std.specs.Prelude.{Option, Some, None, find, is_none, ◌==◌}
 use Rattle.std.proofs.lemmas.Bool.{and_parts, and_from, not-true, false≢true, eqb-true, eq-eqb}
 use Rattle.std.proofs.Math.Bool.{or_comm, and_comm}
-use Rattle.pop_net.specs.declared.leaf.Move.{Move}
-use Rattle.pop_net.specs.LeafModel.{LeafModel, silent_move, same_pair}
-use Rattle.pop_net.specs.NetModel.{Tuple}
-use Rattle.pop_net.specs.Reaction.{takes_states, after_move, by_move, leaf_reaction, reactions}
-use Rattle.pop_net.proofs.Found.{find_some}
-use Rattle.pop_net.proofs.Quiet.{leaf_quiet, leaves_quiet}
+use Rattle.pop_leaf.specs.declared.leaf.Move.{Move}
+use Rattle.pop_leaf.specs.LeafModel.{LeafModel, silent_move, same_pair}
+use Rattle.pop_leaf.specs.NetModel.{Tuple}
+use Rattle.pop_leaf.specs.Reaction.{takes_states, after_move, by_move, leaf_reaction, reactions}
+use Rattle.pop_leaf.proofs.Found.{find_some}
+use Rattle.pop_leaf.proofs.Quiet.{leaf_quiet, leaves_quiet}
 use Rattle.list_laws.proofs.Lists.{heads, tails}
 
 -- a non-silent move changes the states that take it

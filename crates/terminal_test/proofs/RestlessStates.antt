@@ -7,14 +7,14 @@ use Rattle.std.proofs.lemmas.List.{length-append, length-map, length-set, get_or
 use Rattle.std.proofs.Math.Seq.{get_or-append_seam}
 use Rattle.std.specs.Option.{option_map}
 use Rattle.std.proofs.lemmas.Option.{slice_get-get_or, slice_get_within, slice_get-map, get_or_from_slice_get, same_Some}
-use Rattle.pop_net.specs.declared.leaf.Move.{Move}
-use Rattle.pop_net.specs.LeafModel.{LeafModel, IsLeaf, silent_move, same_pair}
-use Rattle.pop_net.specs.NetModel.{NetModel, Tuple, CrowdModel, IsTuple, state_of}
-use Rattle.pop_net.specs.Reaction.{takes_states, by_move, leaf_reaction, reactions}
-use Rattle.pop_net.proofs.Found.{find_some}
+use Rattle.pop_leaf.specs.declared.leaf.Move.{Move}
+use Rattle.pop_leaf.specs.LeafModel.{LeafModel, IsLeaf, silent_move, same_pair}
+use Rattle.pop_leaf.specs.NetModel.{NetModel, Tuple, CrowdModel, IsTuple, state_of}
+use Rattle.pop_leaf.specs.Reaction.{takes_states, by_move, leaf_reaction, reactions}
+use Rattle.pop_leaf.proofs.Found.{find_some}
 use Rattle.pop_net.proofs.Projection.{component, slice_get-component}
-use Rattle.pop_net.proofs.Quiet.{leaf_quiet, leaves_quiet, All-slice_get}
-use Rattle.pop_net.proofs.Silent.{same_pair_cases}
+use Rattle.pop_leaf.proofs.Quiet.{leaf_quiet, leaves_quiet, All-slice_get}
+use Rattle.pop_leaf.proofs.Silent.{same_pair_cases}
 use Rattle.pop_crowd.specs.Replay.{reacts, changes}
 use Rattle.terminal_test.specs.Loud.{pairs_of_moves, ArePairsBelow}
 use Rattle.terminal_test.specs.Restless.{CountsTo, AreSeen, are_held_by, AreMarkedTo, AreMarkedByAll, IsMarked, AreRestlessTo, AreRestless, IsCalm}

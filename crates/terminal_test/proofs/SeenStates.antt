@@ -7,8 +7,8 @@ use Rattle.std.proofs.lemmas.List.{length-map, length-set, set-get_or}
 use Rattle.std.proofs.lemmas.List.Elements.{All-get_or}
 use Rattle.std.proofs.lemmas.List.Folds.{list_all_at}
 use Rattle.std.proofs.lemmas.Option.{slice_get-get_or, slice_get_within, same_Some}
-use Rattle.pop_net.specs.LeafModel.{LeafModel}
-use Rattle.pop_net.specs.NetModel.{NetModel, CrowdModel, state_of}
+use Rattle.pop_leaf.specs.LeafModel.{LeafModel}
+use Rattle.pop_leaf.specs.NetModel.{NetModel, CrowdModel, state_of}
 use Rattle.pop_net.specs.declared.net.Word.{Word}
 use Rattle.pop_net.specs.Lanes.{tuple_of, crowd_of, IsValid, AreValid}
 use Rattle.pop_net.proofs.Projection.{component, slice_get-component}

@@ -1,6 +1,6 @@
 -- Agreement: all agents of a crowd have one output.
 use Rattle.std.specs.Prelude.{◌≡◌, ◌≢◌, Bool, All, Contains}
-use Rattle.pop_net.specs.NetModel.{NetModel, Tuple, CrowdModel, output_of}
+use Rattle.pop_leaf.specs.NetModel.{NetModel, Tuple, CrowdModel, output_of}
 
 abbrev pub AllOutput : NetModel → CrowdModel → Bool → Type 0
 AllOutput net crowd value = All (λ t. output_of net t ≡ value) crowd

@@ -1,7 +1,7 @@
 -- Loud: the pairs of states that react.
 use Rattle.std.specs.Prelude.{ℕ, ◌<◌, if◌then◌else◌, List, [], ◌∷◌, All}
-use Rattle.pop_net.specs.declared.leaf.Move.{Move}
-use Rattle.pop_net.specs.LeafModel.{silent_move}
+use Rattle.pop_leaf.specs.declared.leaf.Move.{Move}
+use Rattle.pop_leaf.specs.LeafModel.{silent_move}
 
 -- the two states of each non-silent move
 abbrev pub pairs_of_moves : List Move → List (ℕ × ℕ)

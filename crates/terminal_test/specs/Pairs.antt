@@ -1,7 +1,7 @@
 -- Pairs of agents whose meeting changes a tuple.
 use Rattle.std.specs.Prelude.{◌≡◌, ◌≢◌, ◌⊎◌, ℕ, ◌<◌, ◌≤◌, true, false, length, Option, None, Some}
-use Rattle.pop_net.specs.NetModel.{NetModel, CrowdModel}
-use Rattle.pop_net.specs.Step.{Step}
+use Rattle.pop_leaf.specs.NetModel.{NetModel, CrowdModel}
+use Rattle.pop_leaf.specs.Step.{Step}
 use Rattle.pop_crowd.specs.Replay.{changes}
 
 -- the agents a and b, a being the lower one, change when they meet

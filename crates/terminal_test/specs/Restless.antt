@@ -1,10 +1,10 @@
 -- Restless: the states in which an agent may change, given the crowd's states.
 use Rattle.std.specs.Prelude.{◌≡◌, ◌≢◌, ℕ, ◌<◌, ◌≤◌, Bool, true, false, ◌&&◌, ◌==◌, nat_le, if◌then◌else◌, List, length}
 use Rattle.std.specs.Prelude.{Some, slice_get, slice_index_or}
-use Rattle.pop_net.specs.LeafModel.{LeafModel}
-use Rattle.pop_net.specs.NetModel.{NetModel, Tuple, CrowdModel, state_of}
+use Rattle.pop_leaf.specs.LeafModel.{LeafModel}
+use Rattle.pop_leaf.specs.NetModel.{NetModel, Tuple, CrowdModel, state_of}
 use Rattle.pop_net.proofs.Projection.{component}
-use Rattle.pop_net.proofs.Quiet.{leaf_quiet}
+use Rattle.pop_leaf.proofs.Quiet.{leaf_quiet}
 
 -- the entry of a state is at least how many of the first n agents are in it, counted up to two
 pub record CountsTo (states seen : List ℕ) (n : ℕ) : Type 0 where

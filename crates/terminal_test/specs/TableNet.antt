@@ -1,5 +1,5 @@
 -- The net that a table of pairs is for.
-use Rattle.pop_net.specs.NetModel.{NetModel}
+use Rattle.pop_leaf.specs.NetModel.{NetModel}
 use Rattle.terminal_test.specs.declared.pair_table.PairTable.{PairTable}
 
 abbrev pub table_net : PairTable → NetModel

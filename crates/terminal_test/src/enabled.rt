@@ -2,8 +2,8 @@
 
 ghost use Rattle.std.specs.Prelude.{◌≡◌, ◌↔◌, None, IfOk, IfSome};
 ghost use Rattle.pop_net.specs.Lanes.{crowd_of, AreValid};
-ghost use Rattle.pop_net.specs.Step.{Step};
-ghost use Rattle.pop_net.specs.Terminal.{IsTerminal};
+ghost use Rattle.pop_leaf.specs.Step.{Step};
+ghost use Rattle.pop_leaf.specs.Terminal.{IsTerminal};
 ghost use Rattle.terminal_test.specs.Pairs.{IsLeastPair, MovesOn};
 
 use crate::pair_table::PairTable;

@@ -3,8 +3,8 @@ use Rattle.std.proofs.Common.{◌≡◌, ℕ, ◌+◌, List, length, map, ap, �
 use Rattle.std.specs.Prelude.{sum}
 use Rattle.std.specs.List.{range_with_len}
 use Rattle.std.proofs.lemmas.List.FromFn.{length-map-range_with_len}
-use Rattle.pop_net.specs.NetModel.{NetModel, number_of_helpers}
-use Rattle.pop_net.specs.InputCrowd.{input_crowd, starts_from, start_of, helper_of}
+use Rattle.pop_leaf.specs.NetModel.{NetModel, number_of_helpers}
+use Rattle.pop_leaf.specs.InputCrowd.{input_crowd, starts_from, start_of, helper_of}
 use Rattle.pop_net.proofs.Tuples.{length-starts_from}
 use Rattle.pop_crowd.specs.Crowds.{input_size}
 

@@ -1,7 +1,7 @@
 -- A crowd has one last line.
 use Rattle.std.proofs.Common.{◌≡◌, ℕ, ◌<◌, ◌≤◌, ◌⊎◌, inl, inr, Option, Some, None, refl, ap, ◌∙◌, arith}
 use Rattle.std.specs.Prelude.{All}
-use Rattle.pop_net.specs.NetModel.{NetModel, CrowdModel, IsTuple}
+use Rattle.pop_leaf.specs.NetModel.{NetModel, CrowdModel, IsTuple}
 use Rattle.terminal_test.specs.Pairs.{IsLeastPair}
 use Rattle.terminal_test.proofs.Ends.{not_terminal}
 use Rattle.tool_bundles.specs.LastPair.{IsLast}

@@ -1,8 +1,8 @@
 -- The pair that the last line of a play or a run names.
 use Rattle.std.specs.Prelude.{ℕ, Option, Some, None}
-use Rattle.pop_net.specs.NetModel.{NetModel, CrowdModel}
-use Rattle.pop_net.specs.Step.{Step}
-use Rattle.pop_net.specs.Terminal.{IsTerminal}
+use Rattle.pop_leaf.specs.NetModel.{NetModel, CrowdModel}
+use Rattle.pop_leaf.specs.Step.{Step}
+use Rattle.pop_leaf.specs.Terminal.{IsTerminal}
 use Rattle.terminal_test.specs.Pairs.{IsLeastPair}
 
 -- no pair if the crowd is terminal, else the least pair that changes a tuple

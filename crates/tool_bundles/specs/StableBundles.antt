@@ -1,7 +1,7 @@
 -- The bundle of a line whose leaves may have goals, how its net starts, and the limits that the check needs.
 use Rattle.std.specs.Prelude.{◌≡◌, ℕ, List, length, Option, Some, None, Result, Ok, Err, if◌then◌else◌}
 use Rattle.serde_json.specs.Data.{Data}
-use Rattle.pop_net.specs.NetModel.{NetModel}
+use Rattle.pop_leaf.specs.NetModel.{NetModel}
 use Rattle.cert_base.specs.StableProof.{IsStableProofWithin}
 use Rattle.goal_json.specs.StableFile.{has_goals}
 use Rattle.goal_json.specs.Bundles.{stable_bundle_at}

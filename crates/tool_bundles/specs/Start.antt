@@ -4,8 +4,8 @@ use Rattle.std.specs.Prelude.{Option, Some, None, Result, Ok, Err, if◌then◌e
 use Rattle.serde_json.specs.Data.{Data}
 use Rattle.json_shape.specs.Faults.{Fault}
 use Rattle.net_json.specs.Examined.{net_at}
-use Rattle.pop_net.specs.NetModel.{NetModel, CrowdModel, number_of_helpers}
-use Rattle.pop_net.specs.InputCrowd.{IsInput, input_crowd}
+use Rattle.pop_leaf.specs.NetModel.{NetModel, CrowdModel, number_of_helpers}
+use Rattle.pop_leaf.specs.InputCrowd.{IsInput, input_crowd}
 use Rattle.pop_net.specs.Lanes.{crowd_of, AreValid}
 use Rattle.pop_crowd.specs.Crowds.{input_size}
 use Rattle.pop_crowd.specs.declared.limits.TheConstants.{AGENT_LEAST, AGENT_LIMIT}

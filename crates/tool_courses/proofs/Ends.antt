@@ -1,6 +1,6 @@
 -- The last line of a run.
 use Rattle.std.proofs.Common.{ℕ}
-use Rattle.pop_net.specs.NetModel.{NetModel, CrowdModel}
+use Rattle.pop_leaf.specs.NetModel.{NetModel, CrowdModel}
 use Rattle.run_spec.specs.declared.spec.RunSpec.{RunSpec}
 use Rattle.pair_runs.specs.Ends.{EndsBy}
 use Rattle.pair_runs.specs.declared.alone.End.{End}

@@ -2,7 +2,7 @@
 use Rattle.std.proofs.Common.{◌≡◌, ℕ, List, refl, ap, sym, subst, ◌∙◌}
 use Rattle.std.specs.Prelude.{length, None}
 use Rattle.pres_ast.specs.PredicateValue.{predicate_value}
-use Rattle.pop_net.specs.NetModel.{NetModel}
+use Rattle.pop_leaf.specs.NetModel.{NetModel}
 use Rattle.journal_text.specs.declared.last.Last.TheVariants.{Verdict, Settled}
 use Rattle.journal_text.specs.declared.last.Outcome.TheVariants.{Agreed, Known}
 use Rattle.cert_base.specs.ProofBound.{proof_bound}

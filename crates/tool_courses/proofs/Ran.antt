@@ -1,10 +1,10 @@
 -- Where a run leads.
 use Rattle.std.proofs.Common.{ℕ, ◌+◌, ◌≤◌, List, length, subst, arith}
 use Rattle.std.specs.Prelude.{All, sum}
-use Rattle.pop_net.specs.NetModel.{NetModel, CrowdModel, IsTuple, number_of_helpers}
-use Rattle.pop_net.specs.InputCrowd.{input_crowd}
-use Rattle.pop_net.specs.Step.{Step}
-use Rattle.pop_net.specs.Reachable.{Reachable}
+use Rattle.pop_leaf.specs.NetModel.{NetModel, CrowdModel, IsTuple, number_of_helpers}
+use Rattle.pop_leaf.specs.InputCrowd.{input_crowd}
+use Rattle.pop_leaf.specs.Step.{Step}
+use Rattle.pop_leaf.specs.Reachable.{Reachable}
 use Rattle.pop_net.proofs.Tuples.{input_tuples, reachable_tuples}
 use Rattle.tool_bundles.proofs.InputSize.{length-input_crowd}
 use Rattle.pop_crowd.specs.declared.crowd.Meeting.{Meeting}

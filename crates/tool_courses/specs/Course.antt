@@ -1,7 +1,7 @@
 -- Course: by what a bundle's net is run from given counts.
 use Rattle.std.specs.Prelude.{ℕ, List}
 use Rattle.pres_ast.specs.PredicateValue.{predicate_value}
-use Rattle.pop_net.specs.NetModel.{NetModel}
+use Rattle.pop_leaf.specs.NetModel.{NetModel}
 use Rattle.journal_text.specs.declared.last.Last.{Last}
 use Rattle.journal_text.specs.declared.last.Last.TheVariants.{Verdict, Settled}
 use Rattle.journal_text.specs.declared.last.Outcome.{Outcome}

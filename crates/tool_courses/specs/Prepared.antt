@@ -1,7 +1,7 @@
 -- What is prepared, and the outputs that it leads to.
 use Rattle.std.specs.Prelude.{◌≡◌, ℕ, ◌≤◌, List, ◌++◌, length, Result, Ok, Err}
-use Rattle.pop_net.specs.NetModel.{number_of_helpers}
-use Rattle.pop_net.specs.InputCrowd.{IsInput, input_crowd}
+use Rattle.pop_leaf.specs.NetModel.{number_of_helpers}
+use Rattle.pop_leaf.specs.InputCrowd.{IsInput, input_crowd}
 use Rattle.pop_net.specs.Lanes.{crowd_of, AreValid}
 use Rattle.pop_net.specs.declared.net.Word.{Word}
 use Rattle.pop_crowd.specs.declared.crowd.Meeting.{Meeting}

@@ -1,6 +1,6 @@
 -- The run of a demo case has one summary.
 use Rattle.std.proofs.Common.{◌≡◌, ℕ, List, Option, Result, Ok, refl, sym, ap, subst, ◌∙◌}
-use Rattle.pop_net.specs.NetModel.{CrowdModel}
+use Rattle.pop_leaf.specs.NetModel.{CrowdModel}
 use Rattle.pop_crowd.specs.declared.crowd.Meeting.{Meeting}
 use Rattle.run_spec.specs.declared.kind.RunKind.TheVariants.{Whole}
 use Rattle.pair_runs.proofs.OnlyRun.{only_run}

@@ -1,8 +1,8 @@
 -- What `demo` makes of a number: the summary of a run of its case.
 use Rattle.std.specs.Prelude.{◌≡◌, ℕ, ◌<◌, ◌^◌, length, Result, Ok}
 use Rattle.pres_ast.specs.PredModel.{PredModel}
-use Rattle.pop_net.specs.NetModel.{NetModel, number_of_helpers}
-use Rattle.pop_net.specs.InputCrowd.{IsInput, input_crowd}
+use Rattle.pop_leaf.specs.NetModel.{NetModel, number_of_helpers}
+use Rattle.pop_leaf.specs.InputCrowd.{IsInput, input_crowd}
 use Rattle.pop_net.specs.Lanes.{crowd_of}
 use Rattle.pair_runs.specs.Run.{IsRun, joined}
 use Rattle.pair_runs.specs.declared.alone.RunEnd.{RunEnd}

@@ -1,6 +1,6 @@
 -- The last line of a watched run.
 use Rattle.std.proofs.Common.{List}
-use Rattle.pop_net.specs.NetModel.{NetModel, CrowdModel}
+use Rattle.pop_leaf.specs.NetModel.{NetModel, CrowdModel}
 use Rattle.run_spec.specs.declared.spec.RunSpec.{RunSpec}
 use Rattle.pop_watch.specs.WatchedEnds.{WatchedEndsBy}
 use Rattle.pop_crowd.specs.declared.crowd.Meeting.{Meeting}

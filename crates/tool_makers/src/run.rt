@@ -37,7 +37,8 @@ fn run_output(
     Ok(Output::new(text, ending))
 }
 
-/// The output of a whole run by one worker, made from the crowd in which its setting starts and written after these lines.
+/// The output of a whole run by one worker, made from the crowd in which its setting starts and written after these
+/// lines.
 fn alone_output<G: Gate>(
     alloc: Global,
     lines: List<u8>,

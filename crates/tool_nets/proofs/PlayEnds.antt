@@ -1,9 +1,9 @@
 -- The last line of a play.
 use Rattle.std.proofs.Common.{◌≡◌, ℕ, Option, Some, None, refl}
 use Rattle.std.specs.Prelude.{◌↔◌, IfSome, option_map}
-use Rattle.pop_net.specs.NetModel.{NetModel, CrowdModel}
-use Rattle.pop_net.specs.Step.{Step}
-use Rattle.pop_net.specs.Terminal.{IsTerminal}
+use Rattle.pop_leaf.specs.NetModel.{NetModel, CrowdModel}
+use Rattle.pop_leaf.specs.Step.{Step}
+use Rattle.pop_leaf.specs.Terminal.{IsTerminal}
 use Rattle.terminal_test.specs.Pairs.{IsLeastPair}
 use Rattle.tool_bundles.specs.LastPair.{IsLast}
 

@@ -5,8 +5,8 @@ use Rattle.std.proofs.lemmas.Bool.{ltb-true, and_parts, eqb-false, not-true}
 use Rattle.std.proofs.lemmas.List.Elements.{All-nil, All-cons}
 use Rattle.serde_json.specs.Data.{Data}
 use Rattle.pop_lines.specs.Lines.{pieces}
-use Rattle.pop_net.specs.NetModel.{NetModel, CrowdModel, IsTuple}
-use Rattle.pop_net.specs.InputCrowd.{input_crowd}
+use Rattle.pop_leaf.specs.NetModel.{NetModel, CrowdModel, IsTuple}
+use Rattle.pop_leaf.specs.InputCrowd.{input_crowd}
 use Rattle.pop_net.proofs.Tuples.{reachable_tuples, input_tuples}
 use Rattle.pop_crowd.specs.declared.crowd.Meeting.{Meeting}
 use Rattle.pop_crowd.specs.Replay.{replay, IsMeeting, AreMeetings}

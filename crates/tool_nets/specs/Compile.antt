@@ -5,7 +5,7 @@ use Rattle.pop_lines.specs.Lines.{ended}
 use Rattle.pres_ast.specs.PredTree.{PredTree}
 use Rattle.pres_ast.specs.PredModel.{PredModel}
 use Rattle.pres_read.specs.Reading.{pred_read}
-use Rattle.pop_net.specs.Reaction.{IsSingle}
+use Rattle.pop_leaf.specs.Reaction.{IsSingle}
 use Rattle.pop_words.specs.Vars.{vars_of}
 use Rattle.serde_json.specs.Written.{compact_text}
 use Rattle.cert_base.specs.ProofBound.{proof_bound}

@@ -1,7 +1,7 @@
 -- A crowd is settled in one way.
 use Rattle.std.proofs.Common.{◌≡◌, ℕ, Bool, true, false, nat_lt, List, Option, Some, None, Result, Ok, Err, sym, subst, ◌∙◌}
 use Rattle.std.specs.Prelude.{MatchBool}
-use Rattle.pop_net.specs.InputCrowd.{input_crowd}
+use Rattle.pop_leaf.specs.InputCrowd.{input_crowd}
 use Rattle.cert_json.specs.declared.bundle.Bundle.{Bundle}
 use Rattle.pop_settle.specs.declared.limits.TheConstants.{TAKE_LIMIT}
 use Rattle.pop_settle.proofs.Once.{are_one}

@@ -3,9 +3,9 @@ use Rattle.std.proofs.Common.{◌≡◌, ◌<◌, List, [], ◌∷◌, ◌++◌,
 use Rattle.std.specs.Prelude.{All}
 use Rattle.std.proofs.lemmas.List.Elements.{All-cons, All-nil, All-head, All-tail}
 use Rattle.pres_ast.specs.PredModel.{PredModel}
-use Rattle.pop_net.specs.LeafModel.{LeafModel}
-use Rattle.pop_net.specs.NetModel.{NetModel}
-use Rattle.pop_net.proofs.Quiet.{All-slice_get}
+use Rattle.pop_leaf.specs.LeafModel.{LeafModel}
+use Rattle.pop_leaf.specs.NetModel.{NetModel}
+use Rattle.pop_leaf.proofs.Quiet.{All-slice_get}
 use Rattle.cert_base.specs.declared.layer.Layer.{Layer}
 use Rattle.cert_base.specs.declared.proof.Proof.{Proof}
 use Rattle.cert_base.specs.ProofLimits.{IsLeafProofWithin, IsProofWithin}

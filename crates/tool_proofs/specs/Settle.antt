@@ -3,8 +3,8 @@ use Rattle.std.specs.Prelude.{◌≡◌, ℕ, ◌*◌, Bool, nat_lt, List, ◌++
 use Rattle.std.specs.Prelude.{Some, None, Result, Ok, Err}
 use Rattle.pop_lines.specs.Lines.{ended}
 use Rattle.pres_ast.specs.PredicateValue.{predicate_value}
-use Rattle.pop_net.specs.NetModel.{NetModel, CrowdModel, number_of_helpers}
-use Rattle.pop_net.specs.InputCrowd.{IsInput, input_crowd}
+use Rattle.pop_leaf.specs.NetModel.{NetModel, CrowdModel, number_of_helpers}
+use Rattle.pop_leaf.specs.InputCrowd.{IsInput, input_crowd}
 use Rattle.pop_crowd.specs.Tally.{crowd_lines}
 use Rattle.journal_text.specs.Journal.{last_line, text_of}
 use Rattle.journal_text.specs.declared.last.Last.TheVariants.{Verdict, Settled}

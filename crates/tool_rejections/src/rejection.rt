@@ -1,8 +1,9 @@
 //! Why a proof is not valid, and the line that says so.
 
 ghost use Rattle.std.specs.Prelude.{◌≡◌, Some, IfOk};
-ghost use Rattle.tool_rejections.specs.Rejections.{layer_words, tree_words, rejected_text, rejection_output};
-ghost use Rattle.tool_rejections.specs.Rejections.{set_words, goal_words, stable_rejected_text, stable_rejection_output};
+ghost use Rattle.tool_rejections.specs.Rejections.{layer_words, tree_words, set_words, goal_words};
+ghost use Rattle.tool_rejections.specs.Rejections.{rejected_text, rejection_output};
+ghost use Rattle.tool_rejections.specs.Rejections.{stable_rejected_text, stable_rejection_output};
 
 use cert_goals::{GoalWhy, SetFault};
 use cert_layers::LayerWhy;

@@ -2,7 +2,7 @@
 use Rattle.std.proofs.Common.{ℕ, List, Option, Some, None, Result, Ok, sym, subst}
 use Rattle.std.specs.Prelude.{◌+◌, length}
 use Rattle.run_spec.specs.declared.kind.RunKind.{RunKind}
-use Rattle.pop_net.specs.InputCrowd.{input_crowd}
+use Rattle.pop_leaf.specs.InputCrowd.{input_crowd}
 use Rattle.pair_runs.specs.Run.{joined}
 use Rattle.pop_journal.specs.Form.{journal_in}
 use Rattle.journal_text.specs.Difference.{Difference}

@@ -2,8 +2,8 @@
 -- of a run of one kind.
 use Rattle.std.specs.Prelude.{◌≡◌, ℕ, ◌+◌, List, ◌++◌, length, codes, decimal, Option, Some, None, Result, Ok, Err}
 use Rattle.pop_lines.specs.Lines.{ended}
-use Rattle.pop_net.specs.NetModel.{CrowdModel}
-use Rattle.pop_net.specs.InputCrowd.{input_crowd}
+use Rattle.pop_leaf.specs.NetModel.{CrowdModel}
+use Rattle.pop_leaf.specs.InputCrowd.{input_crowd}
 use Rattle.run_spec.specs.declared.kind.RunKind.{RunKind}
 use Rattle.run_spec.specs.declared.spec.RunSpec.{RunSpec}
 use Rattle.pair_runs.specs.Run.{joined}

@@ -4,8 +4,8 @@ use Rattle.std.specs.Prelude.{All, Contains, ◌==◌}
 use Rattle.std.proofs.lemmas.Bool.{cases_Bool, eqb-true}
 use Rattle.std.proofs.lemmas.List.Elements.{All-nil, All-cons}
 use Rattle.pres_ast.specs.PredTree.{PredTree}
-use Rattle.pop_net.specs.LeafModel.{LeafModel}
-use Rattle.pop_net.specs.InputCrowd.{leaf_input_crowd}
+use Rattle.pop_leaf.specs.LeafModel.{LeafModel}
+use Rattle.pop_leaf.specs.InputCrowd.{leaf_input_crowd}
 use Rattle.cert_base.specs.declared.fact.Fact.{Fact}
 use Rattle.cert_base.specs.FactsAndCases.{is_in}
 use Rattle.cert_base.specs.Valuation.{times_taken}

@@ -1,6 +1,6 @@
 -- Halts: what a check says of a node that it passes, and of one that it refuses.
 use Rattle.std.specs.Prelude.{◌≡◌, ℕ, ◌+◌, List, ◌∷◌, Option, Some, None}
-use Rattle.pop_net.specs.LeafModel.{LeafModel}
+use Rattle.pop_leaf.specs.LeafModel.{LeafModel}
 use Rattle.cert_base.specs.declared.fact.Fact.{Fact}
 use Rattle.cert_base.specs.declared.node.Node.{Node}
 use Rattle.tree_faults.specs.declared.fault.TreeWhy.{TreeWhy}

@@ -1,6 +1,6 @@
 -- NoEnds: facts that no end meets.
 use Rattle.std.specs.Prelude.{List}
-use Rattle.pop_net.specs.LeafModel.{LeafModel}
+use Rattle.pop_leaf.specs.LeafModel.{LeafModel}
 use Rattle.cert_base.specs.declared.fact.Fact.{Fact}
 use Rattle.cert_base.specs.Valuation.{Valuation}
 use Rattle.cert_base.specs.Ends.{IsEndFor, MeetsAll}

@@ -1,7 +1,7 @@
 -- RefusalLaw: a tree closes exactly when none of its nodes is refused.
 use Rattle.std.specs.Prelude.{◌≡◌, ◌↔◌, Bool, List, [], None}
 use Rattle.pres_ast.specs.PredModel.{PredModel}
-use Rattle.pop_net.specs.LeafModel.{LeafModel, IsLeaf}
+use Rattle.pop_leaf.specs.LeafModel.{LeafModel, IsLeaf}
 use Rattle.cert_base.specs.declared.node.Node.{Node}
 use Rattle.cert_base.specs.FactsAndCases.{base_list}
 use Rattle.cert_base.specs.Closes.{Closes}

@@ -2,7 +2,7 @@ use Rattle.std.proofs.Common.{◌≡◌, ◌++◌, ◌∙◌, ℕ, Bool, true, f
 use Rattle.json.specs.Print.{escape_byte}
 use Rattle.serde_json.specs.Data.{boolean, string}
 use Rattle.serde_json.specs.Written.{compact_text}
-use Rattle.pop_net.specs.LeafModel.{LeafModel}
+use Rattle.pop_leaf.specs.LeafModel.{LeafModel}
 use Rattle.net_json.specs.Written.{list_data, number_data, numbers_data, move_data, leaf_data}
 use Rattle.bundle_text.specs.LeafText.{leaf_head}
 use Rattle.bundle_text.proofs.Behind.{nine, headed}

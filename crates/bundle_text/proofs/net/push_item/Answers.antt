@@ -1,6 +1,6 @@
 use Rattle.std.proofs.Common.{◌≡◌, ◌++◌, sym, subst}
 use Rattle.json.specs.Print.{escape_byte}
-use Rattle.pop_net.specs.declared.net.Item.{Item}
+use Rattle.pop_leaf.specs.declared.item.Item.{Item}
 use Rattle.serde_json.specs.Written.{compact_text}
 use Rattle.net_json.specs.Written.{item_data}
 use Rattle.bundle_text.proofs.net.push_item.Goals as goal

@@ -1,5 +1,5 @@
 use Rattle.std.proofs.Common.{subst}
-use Rattle.pop_net.specs.LeafModel.{LeafModel}
+use Rattle.pop_leaf.specs.LeafModel.{LeafModel}
 use Rattle.cert_layers.specs.LayerFaults.{ChecksLayers}
 use Rattle.cert_goals.proofs.Ways.{checks_some}
 use Rattle.cert_goals.proofs.layers.checked_layers.Goals as goal

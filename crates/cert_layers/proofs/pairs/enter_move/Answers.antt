@@ -1,7 +1,7 @@
 use Rattle.std.proofs.Common.{inl, inr, sym, ◌∙◌}
 use Rattle.cert_layers.proofs.PairEntries.{table-skip, table-enter}
 use Rattle.cert_layers.proofs.pairs.enter_move.Goals as goal
-use Rattle.pop_net.proofs.Within.{move_small}
+use Rattle.pop_leaf.proofs.Within.{move_small}
 
 pub returns-in_default : goal.returns-in_default
 returns-in_default c =

@@ -1,7 +1,7 @@
 use Rattle.std.proofs.Common.{sym, ◌∙◌}
 use Rattle.cert_layers.proofs.Asleep.{finds-placed}
 use Rattle.cert_layers.proofs.waking.first_woken.Goals as goal
-use Rattle.pop_net.proofs.Within.{move_small}
+use Rattle.pop_leaf.proofs.Within.{move_small}
 
 pub woken_in_layer-requires-clause-below : goal.woken_in_layer-requires-clause-below
 woken_in_layer-requires-clause-below c = move_small c.args.leaf.now c.args.t c.move_at-taken.result c.requires.formed c.move_at-taken.ensures

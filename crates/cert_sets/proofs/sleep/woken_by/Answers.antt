@@ -1,9 +1,9 @@
 use Rattle.std.proofs.Common.{not, ◌&&◌, ℕ, length, sym, subst, ◌∙◌}
 use Rattle.std.specs.Prelude.{slice_get}
 use Rattle.std.proofs.lemmas.Bool.{and_parts, not-true}
-use Rattle.pop_net.specs.LeafModel.{IsMoveBelow, silent_move}
-use Rattle.pop_net.proofs.Quiet.{All-slice_get}
-use Rattle.pop_net.proofs.Within.{move_small}
+use Rattle.pop_leaf.specs.LeafModel.{IsMoveBelow, silent_move}
+use Rattle.pop_leaf.proofs.Quiet.{All-slice_get}
+use Rattle.pop_leaf.proofs.Within.{move_small}
 use Rattle.goal_sets.specs.Stays.{takes_within}
 use Rattle.cert_sets.specs.SetTests.{is_silent_move}
 use Rattle.cert_sets.proofs.Woken.{finds_none, finds_beside}

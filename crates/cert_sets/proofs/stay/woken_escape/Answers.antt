@@ -1,5 +1,5 @@
 use Rattle.std.proofs.Common.{length, ap, ◌∙◌}
-use Rattle.pop_net.specs.LeafModel.{LeafModel}
+use Rattle.pop_leaf.specs.LeafModel.{LeafModel}
 use Rattle.pop_hushed.proofs.Moves.{hushed_length}
 use Rattle.cert_sets.proofs.stay.woken_escape.Goals as goal
 

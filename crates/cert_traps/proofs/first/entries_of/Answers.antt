@@ -2,7 +2,7 @@ use Rattle.std.proofs.Common.{◌∙◌, ap, map, arith}
 use Rattle.std.specs.Prelude.{filter}
 use Rattle.std.proofs.lemmas.List.{take_all}
 use Rattle.cert_base.specs.FactsAndCases.{enters, is_possible}
-use Rattle.pop_net.proofs.Within.{move_small}
+use Rattle.pop_leaf.proofs.Within.{move_small}
 use Rattle.cert_traps.proofs.Lists.{cases_more}
 use Rattle.cert_traps.proofs.first.entries_of.Goals as goal
 

@@ -3,7 +3,7 @@ use Rattle.std.proofs.lemmas.List.{take_all}
 use Rattle.cert_traps.specs.Roles.{passes_role}
 use Rattle.cert_traps.proofs.Lists.{map-take_more}
 use Rattle.cert_traps.proofs.role.move_flags.Goals as goal
-use Rattle.pop_net.proofs.Within.{move_small}
+use Rattle.pop_leaf.proofs.Within.{move_small}
 
 pub passes-requires : goal.passes-requires
 passes-requires c = move_small c.args.leaf.now c.loop-t.t c.move_at.result c.requires c.move_at.ensures

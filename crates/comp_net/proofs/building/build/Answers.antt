@@ -1,6 +1,6 @@
 use Rattle.std.proofs.Common.{◌∙◌, length, sym, subst}
-use Rattle.pop_net.specs.NetModel.{NetModel, IsNet}
-use Rattle.pop_net.specs.Reaction.{IsSingle}
+use Rattle.pop_leaf.specs.NetModel.{NetModel, IsNet}
+use Rattle.pop_leaf.specs.Reaction.{IsSingle}
 use Rattle.pres_ast.specs.PredModel.{IsPred}
 use Rattle.cert_base.specs.ProofLimits.{IsProofWithin}
 use Rattle.cert_base.specs.ValidProof.{ValidProof}

@@ -3,8 +3,8 @@ use Rattle.std.specs.Prelude.{AllPairs}
 use Rattle.std.specs.List.{range_with_len}
 use Rattle.std.proofs.lemmas.Int.{to_z-of_z}
 use Rattle.std.proofs.lemmas.Result.{IfOk-weaker}
-use Rattle.pop_net.specs.LeafModel.{LeafModel, IsLeaf}
-use Rattle.pop_net.specs.Reaction.{Differ}
+use Rattle.pop_leaf.specs.LeafModel.{LeafModel, IsLeaf}
+use Rattle.pop_leaf.specs.Reaction.{Differ}
 use Rattle.comp_powers_leaf.specs.PowersLeaf.{state_name_at, says, place, all_helper_roles}
 use Rattle.comp_powers_leaf.proofs.Formed.{powers-formed, leaf_as}
 use Rattle.comp_powers_leaf.proofs.Single.{moves-single}

@@ -3,8 +3,8 @@ use Rattle.std.specs.Prelude.{AllPairs}
 use Rattle.std.specs.List.{range_with_len}
 use Rattle.std.proofs.lemmas.Int.{to_z-of_z}
 use Rattle.std.proofs.lemmas.Result.{IfOk-weaker}
-use Rattle.pop_net.specs.LeafModel.{LeafModel, IsLeaf}
-use Rattle.pop_net.specs.Reaction.{Differ}
+use Rattle.pop_leaf.specs.LeafModel.{LeafModel, IsLeaf}
+use Rattle.pop_leaf.specs.Reaction.{Differ}
 use Rattle.comp_counting.specs.FlockAtoms.{says_enough, enough_for}
 use Rattle.comp_counting.specs.FullState.{flock_start, flock_output}
 use Rattle.comp_prefix.specs.PrefixLeaf.{prefix_moves, prefix_leaf_with, bound_worths, last_place}

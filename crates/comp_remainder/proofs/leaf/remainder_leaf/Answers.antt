@@ -1,8 +1,8 @@
 use Rattle.std.proofs.Common.{rules, ◌∙◌, sym, subst}
 use Rattle.std.specs.Prelude.{AllPairs}
 use Rattle.std.proofs.lemmas.Result.{IfOk-weaker}
-use Rattle.pop_net.specs.LeafModel.{LeafModel}
-use Rattle.pop_net.specs.Reaction.{Differ}
+use Rattle.pop_leaf.specs.LeafModel.{LeafModel}
+use Rattle.pop_leaf.specs.Reaction.{Differ}
 use Rattle.comp_remainder.proofs.Formed.{formed-as}
 use Rattle.comp_remainder.proofs.SingleMoves.{moves-single}
 use Rattle.comp_remainder.proofs.leaf.remainder_leaf.Goals as goal

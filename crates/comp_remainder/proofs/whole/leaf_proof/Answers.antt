@@ -1,6 +1,6 @@
 use Rattle.std.proofs.Common.{◌∙◌, ap, length}
 use Rattle.std.proofs.lemmas.List.FromFn.{length-map-range_with_len}
-use Rattle.pop_net.specs.LeafModel.{LeafModel}
+use Rattle.pop_leaf.specs.LeafModel.{LeafModel}
 use Rattle.comp_remainder.specs.RemainderLeaf.{remainder_state_count, remainder_state_name}
 use Rattle.comp_remainder.proofs.Valid.{part-as}
 use Rattle.comp_remainder.proofs.whole.leaf_proof.Goals as goal

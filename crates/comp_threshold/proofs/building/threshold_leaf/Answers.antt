@@ -4,8 +4,8 @@ use Rattle.std.proofs.lemmas.Int.{to_z-of_z}
 use Rattle.std.proofs.lemmas.Result.{IfOk-weaker}
 use Rattle.comp_threshold.specs.ThresholdLeaf.{place_of_value}
 use Rattle.comp_threshold.proofs.Places.{width-bound, width-coef}
-use Rattle.pop_net.specs.LeafModel.{LeafModel}
-use Rattle.pop_net.specs.Reaction.{Differ}
+use Rattle.pop_leaf.specs.LeafModel.{LeafModel}
+use Rattle.pop_leaf.specs.Reaction.{Differ}
 use Rattle.comp_threshold.proofs.Single.{moves-single}
 use Rattle.comp_threshold.proofs.Formed.{built-formed}
 use Rattle.comp_threshold.proofs.building.threshold_leaf.Goals as goal

@@ -1,6 +1,6 @@
 use Rattle.std.proofs.Common.{Bool, ap, arith}
 use Rattle.std.specs.Prelude.{◌==◌}
-use Rattle.pop_net.specs.declared.leaf.Move.{Move}
+use Rattle.pop_leaf.specs.declared.leaf.Move.{Move}
 use Rattle.comp_trees.specs.SortedLayers.{leader_kind}
 use Rattle.comp_trees.proofs.PlacesMore.{places_more}
 use Rattle.std.proofs.lemmas.Grind.{common_steps}

@@ -5,7 +5,7 @@ use Rattle.std.proofs.lemmas.Option.{slice_get_read}
 use Rattle.cert_base.specs.ValidLayers.{moves_of_layers}
 use Rattle.std.specs.Prelude.{ℕ, List}
 use Rattle.cert_base.specs.declared.proof.LeafProof.{LeafProof}
-use Rattle.pop_net.specs.Hushed.{hushed}
+use Rattle.pop_leaf.specs.Hushed.{hushed}
 use Rattle.goal_rest.specs.HushedNet.{hushed_leaves}
 use Rattle.pop_hushed.proofs.Copied.{one_copied}
 use Rattle.goal_rest.proofs.HushedLeaves.{hushed_length, hushed_at}

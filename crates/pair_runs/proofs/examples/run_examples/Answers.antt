@@ -1,11 +1,11 @@
 use Rattle.std.proofs.Common.{◌≡◌, ◌≢◌, ◌⊎◌, inl, inr, ℕ, zero, suc, ◌+◌, ◌*◌, ◌<◌, ◌≤◌, List, [], ◌∷◌, length, refl, ap, ◌∙◌, arith}
 use Rattle.std.specs.Prelude.{Some, slice_get, slice_index, map, take}
 use Rattle.std.proofs.lemmas.List.Elements.{All-cons, All-nil}
-use Rattle.pop_net.specs.Step.{Step}
-use Rattle.pop_net.specs.Terminal.{IsTerminal}
+use Rattle.pop_leaf.specs.Step.{Step}
+use Rattle.pop_leaf.specs.Terminal.{IsTerminal}
 use Rattle.pop_net.specs.ExampleNets.{majority, majority_leaf, move}
 use Rattle.pop_net.proofs.OneLeaf.{one_leaf_step}
-use Rattle.pop_net.proofs.Quiet.{is_ended-terminal}
+use Rattle.pop_leaf.proofs.Quiet.{is_ended-terminal}
 use Rattle.pop_crowd.specs.declared.crowd.Meeting.{Meeting}
 use Rattle.pop_crowd.specs.Replay.{replay}
 use Rattle.pair_runs.specs.Run.{meetings_of, pairs, joined, IsRound}

@@ -1,6 +1,6 @@
 use Rattle.std.specs.Prelude.{true, ◌↔◌}
 use Rattle.std.proofs.Common.{◌≡◌, ℕ, ◌-◌, min, [], ◌∷◌, ◌++◌, sym, ap, subst, ◌∙◌, arith, refl, length-append}
-use Rattle.pop_net.specs.NetModel.{NetModel}
+use Rattle.pop_leaf.specs.NetModel.{NetModel}
 use Rattle.pop_net.specs.Lanes.{crowd_of, AreValid}
 use Rattle.pair_runs.specs.Ends.{RunGoesOn, IsEndOf}
 use Rattle.pair_runs.specs.Turns.{ArePlayed}

@@ -1,7 +1,7 @@
 use Rattle.std.proofs.Common.{◌∷◌, ◌++◌, ap, sym, subst, ◌∙◌}
 use Rattle.std.specs.Prelude.{All}
 use Rattle.std.proofs.lemmas.List.Elements.{All-head, All-tail, All-same}
-use Rattle.pop_net.specs.NetModel.{IsTuple, HasStates}
+use Rattle.pop_leaf.specs.NetModel.{IsTuple, HasStates}
 use Rattle.pop_net.specs.Lanes.{crowd_of}
 use Rattle.pop_crowd.specs.Tally.{crowd_line, crowd_lines}
 use Rattle.pop_crowd.specs.Shown.{shown}

@@ -2,7 +2,7 @@ use Rattle.std.proofs.Common.{◌≡◌, ℕ, ◌++◌, map}
 use Rattle.std.specs.Prelude.{All}
 use Rattle.std.specs.List.{concat}
 use Rattle.std.specs.BTreeMap.{btree_map_len}
-use Rattle.pop_net.specs.NetModel.{Tuple, IsTuple, HasStates}
+use Rattle.pop_leaf.specs.NetModel.{Tuple, IsTuple, HasStates}
 use Rattle.pop_net.specs.Lanes.{crowd_of}
 use Rattle.pop_crowd.specs.Tally.{crowd_line, crowd_lines}
 use Rattle.pop_crowd.specs.Shown.{shown}

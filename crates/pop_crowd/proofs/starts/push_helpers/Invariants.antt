@@ -1,6 +1,6 @@
 use Rattle.std.proofs.Common.{◌≡◌, ◌++◌, map}
 use Rattle.std.specs.List.{range_with_len}
-use Rattle.pop_net.specs.InputCrowd.{helper_of}
+use Rattle.pop_leaf.specs.InputCrowd.{helper_of}
 use Rattle.pop_net.specs.Lanes.{crowd_of, AreValid}
 use Rattle.pop_crowd.proofs.starts.push_helpers.Given as goal
 

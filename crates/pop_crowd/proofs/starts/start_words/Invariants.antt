@@ -1,5 +1,5 @@
 use Rattle.std.proofs.Common.{◌≡◌, take}
-use Rattle.pop_net.specs.InputCrowd.{starts_from, start_of}
+use Rattle.pop_leaf.specs.InputCrowd.{starts_from, start_of}
 use Rattle.pop_net.specs.Lanes.{crowd_of, AreValid}
 use Rattle.pop_crowd.proofs.starts.start_words.Given as goal
 

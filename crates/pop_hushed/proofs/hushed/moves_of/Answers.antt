@@ -2,7 +2,7 @@ use Rattle.std.proofs.Common.{◌≡◌, ◌+◌, ◌≤◌, false, length, get_
 use Rattle.std.specs.Prelude.{Some}
 use Rattle.std.proofs.lemmas.List.{take_all}
 use Rattle.std.proofs.lemmas.Option.{slice_get_within, get_or_from_slice_get}
-use Rattle.pop_net.specs.Hushed.{is_kept, hush_unless, hushed_moves}
+use Rattle.pop_leaf.specs.Hushed.{is_kept, hush_unless, hushed_moves}
 use Rattle.pop_hushed.proofs.Copied.{one_copied}
 use Rattle.pop_hushed.proofs.Moves.{hushed_at, hushed_length}
 use Rattle.pop_hushed.proofs.hushed.moves_of.Goals as goal

@@ -1,5 +1,5 @@
 use Rattle.std.proofs.Common.{◌≡◌, take}
-use Rattle.pop_net.specs.Hushed.{hushed_moves}
+use Rattle.pop_leaf.specs.Hushed.{hushed_moves}
 use Rattle.pop_hushed.proofs.hushed.moves_of.Given as goal
 
 abbrev pub invariant-loop-t : goal.invariant-loop-t

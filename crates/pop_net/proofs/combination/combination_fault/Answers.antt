@@ -1,9 +1,9 @@
 use Rattle.std.proofs.Common.{◌≡◌, sym, ◌∙◌, arith, length, ap}
 use Rattle.std.specs.Prelude.{None, Some}
 use Rattle.std.proofs.lemmas.Bool.{eq-eqb, ne_eqb, OnTrue_at}
-use Rattle.pop_net.specs.declared.net.Item.TheVariants.{Leaf}
+use Rattle.pop_leaf.specs.declared.item.Item.TheVariants.{Leaf}
 use Rattle.pop_net.specs.declared.fault.CombinationFault.TheVariants as combination
-use Rattle.pop_net.specs.FirstFault.{unless}
+use Rattle.pop_leaf.specs.FirstFault.{unless}
 use Rattle.pop_net.specs.NetFaults.{fault_of_combination}
 use Rattle.pop_net.proofs.Trees.{fault_here, walked_next, fault_at_end}
 use Rattle.pop_net.proofs.Whole.{none_where_tree}

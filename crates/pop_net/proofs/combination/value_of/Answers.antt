@@ -1,7 +1,7 @@
 use Rattle.std.proofs.Common.{false, sym, ◌∙◌, ap, arith, length}
 use Rattle.std.specs.Prelude.{Some}
-use Rattle.pop_net.specs.declared.net.Item.TheVariants.{Leaf}
-use Rattle.pop_net.specs.NetModel.{truth}
+use Rattle.pop_leaf.specs.declared.item.Item.TheVariants.{Leaf}
+use Rattle.pop_leaf.specs.NetModel.{truth}
 use Rattle.pop_net.proofs.Values.{no_value, valued_next}
 use Rattle.pop_net.proofs.combination.value_of.Goals as goal
 

@@ -1,4 +1,4 @@
-use Rattle.pop_net.specs.NetModel.{truth}
+use Rattle.pop_leaf.specs.NetModel.{truth}
 use Rattle.pop_net.proofs.Values.{Valued}
 use Rattle.pop_net.proofs.combination.value_of.Given as goal
 

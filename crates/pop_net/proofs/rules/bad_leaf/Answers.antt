@@ -2,8 +2,8 @@ use Rattle.std.proofs.Common.{◌≡◌, length, not, sym, ap, arith}
 use Rattle.std.specs.Prelude.{◌==◌}
 use Rattle.std.proofs.lemmas.Bool.{eq-eqb, ne_eqb}
 use Rattle.std.proofs.lemmas.Bool.Decides.{Decides-eqb}
-use Rattle.pop_net.specs.LeafModel.{LeafModel}
-use Rattle.pop_net.proofs.FirstFault.{found_position, none_position}
+use Rattle.pop_leaf.specs.LeafModel.{LeafModel}
+use Rattle.pop_leaf.proofs.FirstFault.{found_position, none_position}
 use Rattle.pop_net.proofs.rules.bad_leaf.Goals as goal
 
 pub returns-then-input_count-inputs-clause-first : goal.returns-then-input_count-inputs-clause-first

@@ -1,5 +1,5 @@
 use Rattle.std.proofs.Common.{◌≡◌, ℕ, ◌<◌, length, get_or}
-use Rattle.pop_net.specs.LeafModel.{LeafModel, IsLeaf}
+use Rattle.pop_leaf.specs.LeafModel.{LeafModel, IsLeaf}
 use Rattle.pop_net.proofs.rules.bad_leaf.Given as goal
 
 abbrev pub invariant-loop-i : goal.invariant-loop-i

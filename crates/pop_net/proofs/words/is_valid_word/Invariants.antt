@@ -1,7 +1,7 @@
 use Rattle.std.proofs.Common.{◌^◌, ◌≡◌, ℕ, ◌<◌, length}
 use Rattle.std.specs.Prelude.{slice_get, Some}
-use Rattle.pop_net.specs.LeafModel.{LeafModel}
-use Rattle.pop_net.specs.NetModel.{state_of}
+use Rattle.pop_leaf.specs.LeafModel.{LeafModel}
+use Rattle.pop_leaf.specs.NetModel.{state_of}
 use Rattle.pop_net.specs.Lanes.{digits}
 use Rattle.pop_net.specs.LaneWidth.{bits_of}
 use Rattle.pop_net.proofs.words.is_valid_word.Given as goal

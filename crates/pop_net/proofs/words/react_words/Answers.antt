@@ -1,10 +1,10 @@
 use Rattle.std.proofs.Common.{◌^◌, length, ◌∙◌, arith}
 use Rattle.std.proofs.lemmas.List.{length-map}
 use Rattle.pop_net.specs.Lanes.{digits}
-use Rattle.pop_net.specs.Reaction.{reactions}
+use Rattle.pop_leaf.specs.Reaction.{reactions}
 use Rattle.pop_net.specs.LaneWidth.{bits_of}
 use Rattle.pop_net.proofs.Digits.{length-digits}
-use Rattle.pop_net.proofs.Reactions.{length-reactions}
+use Rattle.pop_leaf.proofs.Reactions.{length-reactions}
 use Rattle.pop_net.proofs.Packing.{packed_all}
 use Rattle.pop_net.proofs.Lanewise.{lane_in, reaction_more}
 use Rattle.pop_net.proofs.words.react_words.Goals as goal

@@ -1,5 +1,5 @@
 use Rattle.std.proofs.Common.{◌^◌, map, length}
-use Rattle.pop_net.specs.Reaction.{reactions}
+use Rattle.pop_leaf.specs.Reaction.{reactions}
 use Rattle.pop_net.specs.Lanes.{digits}
 use Rattle.pop_net.specs.LaneWidth.{bits_of}
 use Rattle.pop_net.proofs.Packing.{Packed}

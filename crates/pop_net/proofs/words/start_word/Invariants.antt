@@ -1,6 +1,6 @@
 use Rattle.std.proofs.Common.{◌^◌, map}
 use Rattle.std.specs.Prelude.{slice_index}
-use Rattle.pop_net.specs.LeafModel.{LeafModel}
+use Rattle.pop_leaf.specs.LeafModel.{LeafModel}
 use Rattle.pop_net.specs.LaneWidth.{bits_of}
 use Rattle.pop_net.proofs.Packing.{Packed}
 use Rattle.pop_net.proofs.words.start_word.Given as goal

@@ -1,8 +1,8 @@
 use Rattle.std.proofs.Common.{◌^◌, ◌≡◌, length, take}
-use Rattle.pop_net.specs.NetModel.{leaf_outputs}
+use Rattle.pop_leaf.specs.NetModel.{leaf_outputs}
 use Rattle.pop_net.specs.Lanes.{digits}
 use Rattle.pop_net.specs.LaneWidth.{bits_of}
-use Rattle.pop_net.specs.declared.limits.TheConstants.{LEAF_LIMIT}
+use Rattle.pop_leaf.specs.declared.limits.TheConstants.{LEAF_LIMIT}
 use Rattle.pop_net.proofs.words.word_outputs.Given as goal
 
 abbrev pub invariant-loop-i : goal.invariant-loop-i

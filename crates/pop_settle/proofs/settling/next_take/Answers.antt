@@ -1,8 +1,8 @@
 use Rattle.std.proofs.Common.{◌≡◌, ℕ, ◌<◌, ◌≤◌, List, length, get_or, refl, sym, subst, ◌∙◌, arith}
 use Rattle.std.specs.Prelude.{Option, Some, None, slice_get}
 use Rattle.std.proofs.lemmas.Option.{slice_get-get_or}
-use Rattle.pop_net.specs.LeafModel.{IsMoveBelow}
-use Rattle.pop_net.proofs.Quiet.{All-slice_get}
+use Rattle.pop_leaf.specs.LeafModel.{IsMoveBelow}
+use Rattle.pop_leaf.proofs.Quiet.{All-slice_get}
 use Rattle.pop_settle.specs.Groups.{IsMade}
 use Rattle.pop_settle.proofs.Running.{run_idle}
 use Rattle.pop_settle.proofs.Searching.{idle_more, idle_all}

@@ -1,9 +1,9 @@
 use Rattle.std.proofs.Common.{◌≡◌, ℕ, ◌<◌, List, length, get_or, ap, sym, subst, ◌∙◌, arith}
 use Rattle.std.specs.Prelude.{Option, Some, IfSome, slice_get}
 use Rattle.std.proofs.lemmas.Option.{slice_get-get_or}
-use Rattle.pop_net.specs.LeafModel.{LeafModel}
+use Rattle.pop_leaf.specs.LeafModel.{LeafModel}
 use Rattle.pop_net.specs.Lanes.{crowd_of}
-use Rattle.pop_net.proofs.Quiet.{nothing}
+use Rattle.pop_leaf.proofs.Quiet.{nothing}
 use Rattle.cert_base.specs.declared.proof.LeafProof.{LeafProof}
 use Rattle.pop_settle.specs.Walks.{IsQuietBefore}
 use Rattle.pop_settle.proofs.Hushed.{quiet_leaf}

@@ -1,7 +1,7 @@
 use Rattle.std.proofs.Common.{◌≡◌, ℕ, List, ◌∷◌, ◌++◌, codes, length, ap, subst, ◌∙◌}
 use Rattle.std.specs.Prelude.{slice_get, slice_index_or}
 use Rattle.pop_lines.specs.Lines.{ended}
-use Rattle.pop_net.specs.declared.net.Item.TheVariants.{Not}
+use Rattle.pop_leaf.specs.declared.item.Item.TheVariants.{Not}
 use Rattle.pres_read.specs.Canonical.{tree_text}
 use Rattle.pop_show.specs.Lines.{below, each, spaced, name_at}
 use Rattle.pop_show.specs.LeafLines.{leaf_lines}

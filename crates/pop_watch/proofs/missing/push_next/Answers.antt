@@ -1,6 +1,6 @@
 use Rattle.std.proofs.Common.{◌≡◌, ℕ, suc, List, [], ◌∷◌, length, length-append, get_or, set, refl, sym, ap, subst, ◌∙◌, rules}
 use Rattle.std.proofs.lemmas.List.{get_or_default, length-map}
-use Rattle.pop_net.specs.NetModel.{CrowdModel}
+use Rattle.pop_leaf.specs.NetModel.{CrowdModel}
 use Rattle.pop_net.specs.Lanes.{crowd_of, tuple_of}
 use Rattle.pop_crowd.specs.declared.crowd.Meeting.{Meeting}
 use Rattle.pair_runs.specs.Picks.{picks_from, words_from}

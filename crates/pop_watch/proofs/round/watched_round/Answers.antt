@@ -1,9 +1,9 @@
 use Rattle.std.proofs.Common.{◌≡◌, ◌<◌, ℕ, List, length, inl, inr, sym, ap, subst, ◌∙◌, arith}
 use Rattle.std.specs.Prelude.{All}
-use Rattle.pop_net.specs.NetModel.{CrowdModel}
+use Rattle.pop_leaf.specs.NetModel.{CrowdModel}
 use Rattle.pop_net.specs.declared.net.Word.{Word}
-use Rattle.pop_net.specs.Step.{Step}
-use Rattle.pop_net.specs.Terminal.{IsTerminal}
+use Rattle.pop_leaf.specs.Step.{Step}
+use Rattle.pop_leaf.specs.Terminal.{IsTerminal}
 use Rattle.pop_net.specs.Lanes.{crowd_of}
 use Rattle.terminal_test.specs.TableNet.{table_net}
 use Rattle.pair_runs.specs.Run.{made_by}

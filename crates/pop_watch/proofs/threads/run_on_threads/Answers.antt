@@ -1,6 +1,6 @@
 use Rattle.std.proofs.Common.{◌≡◌, min, [], ◌∷◌, ◌++◌, inl, sym, subst, ◌∙◌, arith, refl, length-append}
 use Rattle.std.specs.Prelude.{true, ◌↔◌}
-use Rattle.pop_net.specs.NetModel.{NetModel}
+use Rattle.pop_leaf.specs.NetModel.{NetModel}
 use Rattle.pop_net.specs.Lanes.{crowd_of, AreValid}
 use Rattle.pair_runs.specs.Ends.{RunGoesOn, IsEndOf}
 use Rattle.pair_runs.proofs.ManyRounds.{all_no_rounds}

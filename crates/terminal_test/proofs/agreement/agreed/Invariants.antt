@@ -1,6 +1,6 @@
 use Rattle.std.proofs.Common.{◌≡◌, ℕ, ◌<◌, get_or}
 use Rattle.pop_net.specs.declared.net.Word.{Word}
-use Rattle.pop_net.specs.NetModel.{output_of}
+use Rattle.pop_leaf.specs.NetModel.{output_of}
 use Rattle.pop_net.specs.Lanes.{tuple_of}
 use Rattle.terminal_test.proofs.agreement.agreed.Given as goal
 

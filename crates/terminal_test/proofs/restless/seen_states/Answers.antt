@@ -5,7 +5,7 @@ use Rattle.std.proofs.lemmas.List.{length-set, get_or_default}
 use Rattle.std.proofs.lemmas.Option.{slice_get-get_or}
 use Rattle.pop_net.specs.Lanes.{tuple_of, crowd_of}
 use Rattle.pop_net.proofs.Projection.{component, slice_get-component}
-use Rattle.pop_net.proofs.Quiet.{nothing}
+use Rattle.pop_leaf.proofs.Quiet.{nothing}
 use Rattle.pop_crowd.proofs.Words.{tuple_at}
 use Rattle.terminal_test.specs.Restless.{AreSeenTo}
 use Rattle.terminal_test.proofs.SeenStates.{counts_stay, seen_more, all_seen}

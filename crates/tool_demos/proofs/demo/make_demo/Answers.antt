@@ -1,6 +1,6 @@
 use Rattle.std.proofs.Common.{length, List, ℕ, ◌≤◌, ap, sym, subst, ◌∙◌, arith}
 use Rattle.std.proofs.lemmas.List.{length-map}
-use Rattle.pop_net.specs.NetModel.{CrowdModel}
+use Rattle.pop_leaf.specs.NetModel.{CrowdModel}
 use Rattle.pop_net.specs.Lanes.{crowd_of, tuple_of}
 use Rattle.run_spec.specs.declared.spec.RunSpec.{RunSpec}
 use Rattle.pair_runs.specs.Run.{IsRun}

@@ -3,7 +3,7 @@ use Rattle.std.specs.Prelude.{All}
 use Rattle.std.specs.Option.{option_map}
 use Rattle.cert_base.specs.declared.proof.LeafProof.{LeafProof}
 use Rattle.cert_base.specs.ProofLimits.{IsProofWithin}
-use Rattle.pop_net.specs.NetModel.{NetModel}
+use Rattle.pop_leaf.specs.NetModel.{NetModel}
 use Rattle.pres_ast.specs.PredModel.{IsPred}
 use Rattle.tool_nets.specs.Compile.{refusal_of, unless_refused}
 use Rattle.tool_nets.proofs.compile.built_bundle.Goals as goal

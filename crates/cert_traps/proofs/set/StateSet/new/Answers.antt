@@ -1,6 +1,6 @@
 use Rattle.std.proofs.Common.{◌∙◌, map, ap, sym}
 use Rattle.std.specs.List.{range_with_len}
-use Rattle.pop_net.specs.declared.limits.TheConstants.{STATE_LIMIT}
+use Rattle.pop_leaf.specs.declared.limits.TheConstants.{STATE_LIMIT}
 use Rattle.cert_base.specs.FactsAndCases.{is_in}
 use Rattle.cert_traps.proofs.set.StateSet.new.Goals as goal
 

@@ -1,5 +1,5 @@
 use Rattle.std.proofs.Common.{◌≡◌, subst}
-use Rattle.pop_net.specs.NetModel.{output_of}
+use Rattle.pop_leaf.specs.NetModel.{output_of}
 use Rattle.pop_net.specs.Lanes.{tuple_of}
 use Rattle.pop_checker.specs.CheckedModel.{CheckedModel, IsChecked}
 use Rattle.pop_checker.proofs.Verdicts.{all_right, first_right, all_as_first}

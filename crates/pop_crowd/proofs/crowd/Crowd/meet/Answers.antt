@@ -3,9 +3,9 @@ use Rattle.std.specs.Prelude.{Some, slice_get}
 use Rattle.std.proofs.lemmas.Option.{slice_get_read}
 use Rattle.pop_net.specs.declared.net.Word.{Word}
 use Rattle.pop_net.specs.Lanes.{crowd_of, IsValid}
-use Rattle.pop_net.specs.Reaction.{after_meeting}
-use Rattle.pop_net.specs.Step.{Step}
-use Rattle.pop_net.proofs.Quiet.{All-slice_get}
+use Rattle.pop_leaf.specs.Reaction.{after_meeting}
+use Rattle.pop_leaf.specs.Step.{Step}
+use Rattle.pop_leaf.proofs.Quiet.{All-slice_get}
 use Rattle.pop_crowd.proofs.Words.{after_write, written_anew, write_step}
 use Rattle.pop_crowd.proofs.crowd.Crowd.meet.Goals.{After-differ}
 use Rattle.pop_crowd.proofs.crowd.Crowd.meet.Goals as goal

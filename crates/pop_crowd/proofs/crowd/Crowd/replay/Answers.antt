@@ -1,7 +1,7 @@
 use Rattle.std.proofs.Common.{◌≡◌, length, drop, sym, subst, ◌∙◌, ap, arith, rules}
 use Rattle.std.proofs.lemmas.List.{length-map, drop_all}
-use Rattle.pop_net.specs.Step.{Step}
-use Rattle.pop_net.specs.Reachable.{ReachedWithin}
+use Rattle.pop_leaf.specs.Step.{Step}
+use Rattle.pop_leaf.specs.Reachable.{ReachedWithin}
 use Rattle.pop_net.specs.Lanes.{tuple_of, crowd_of}
 use Rattle.pop_crowd.specs.Replay.{replay, change_count, AreMeetings}
 use Rattle.pop_crowd.proofs.Words.{crowd_tuples}

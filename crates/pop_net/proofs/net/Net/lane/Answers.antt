@@ -1,10 +1,10 @@
 use Rattle.std.proofs.Common.{◌≡◌, ◌/◌, ◌%◌, ◌^◌, ◌∙◌, ap, sym, length}
 use Rattle.std.proofs.lemmas.Option.{slice_get-get_or}
-use Rattle.pop_net.specs.NetModel.{NetModel}
+use Rattle.pop_leaf.specs.NetModel.{NetModel}
 use Rattle.pop_net.specs.LaneWidth.{bits_of, width_of}
 use Rattle.pop_net.specs.Lanes.{lane_size}
 use Rattle.pop_net.proofs.Packing.{lane_at}
-use Rattle.pop_net.proofs.Quiet.{nothing}
+use Rattle.pop_leaf.proofs.Quiet.{nothing}
 use Rattle.pop_net.proofs.net.Net.lane.Goals as goal
 
 at : (c : goal.After-state) → c.state.result ≡ c.args.word.0 / lane_size c.args.self.now ^ c.args.leaf % lane_size c.args.self.now

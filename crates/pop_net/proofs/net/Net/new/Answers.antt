@@ -1,7 +1,7 @@
 use Rattle.std.proofs.Common.{rules, sym, ◌∙◌}
 use Rattle.std.specs.Prelude.{All}
-use Rattle.pop_net.specs.LeafModel.{IsLeaf}
-use Rattle.pop_net.specs.NetModel.{IsNet}
+use Rattle.pop_leaf.specs.LeafModel.{IsLeaf}
+use Rattle.pop_leaf.specs.NetModel.{IsNet}
 use Rattle.pop_net.proofs.NetFaults.{unbroken_net, right_net}
 use Rattle.pop_net.proofs.net.Net.new.Goals as goal
 

@@ -1,13 +1,13 @@
 use Rattle.std.proofs.Common.{◌≡◌, ℕ, ◌<◌, ◌^◌, List, length, map, ap, sym, subst, ◌∙◌}
-use Rattle.pop_net.specs.LeafModel.{LeafModel}
-use Rattle.pop_net.specs.NetModel.{NetModel, Tuple, HasStates, IsNet}
-use Rattle.pop_net.specs.Reaction.{reactions, reaction}
-use Rattle.pop_net.specs.Step.{TupleChange}
+use Rattle.pop_leaf.specs.LeafModel.{LeafModel}
+use Rattle.pop_leaf.specs.NetModel.{NetModel, Tuple, HasStates, IsNet}
+use Rattle.pop_leaf.specs.Reaction.{reactions, reaction}
+use Rattle.pop_leaf.specs.Step.{TupleChange}
 use Rattle.pop_net.specs.LaneWidth.{bits_of, width_of}
 use Rattle.pop_net.specs.Lanes.{digits, lane_size, tuple_of}
 use Rattle.pop_net.proofs.Digits.{length-digits}
-use Rattle.pop_net.proofs.Reactions.{reaction_change}
-use Rattle.pop_net.proofs.Within.{reaction_states}
+use Rattle.pop_leaf.proofs.Reactions.{reaction_change}
+use Rattle.pop_leaf.proofs.Within.{reaction_states}
 use Rattle.pop_net.proofs.net.Net.react.Goals as goal
 
 the_leaves : (c : goal.After-react_words-first) → c.as_slice.result.now ≡ c.args.self.now.leaves

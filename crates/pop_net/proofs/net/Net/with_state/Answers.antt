@@ -3,13 +3,13 @@ use Rattle.std.specs.Prelude.{Some, Option, IfSome, slice_get, slice_set}
 use Rattle.std.proofs.Math.Nat.{mul-le-mul_left}
 use Rattle.std.proofs.lemmas.Nat.{pow_pos, mod_below}
 use Rattle.std.proofs.lemmas.Option.{slice_get-get_or}
-use Rattle.pop_net.specs.LeafModel.{LeafModel}
-use Rattle.pop_net.specs.NetModel.{NetModel, IsNet}
+use Rattle.pop_leaf.specs.LeafModel.{LeafModel}
+use Rattle.pop_leaf.specs.NetModel.{NetModel, IsNet}
 use Rattle.pop_net.specs.LaneWidth.{bits_of, width_of}
 use Rattle.pop_net.specs.Lanes.{digits, lane_size, tuple_of}
 use Rattle.pop_net.proofs.LaneBits.{shifted, fits}
 use Rattle.pop_net.proofs.Packing.{lane_at, is_tuple}
-use Rattle.pop_net.proofs.Quiet.{All-slice_get, nothing}
+use Rattle.pop_leaf.proofs.Quiet.{All-slice_get, nothing}
 use Rattle.pop_net.proofs.Widths.{fit_lanes, lanes_in_word}
 use Rattle.std.specs.Prelude.{get_or}
 use Rattle.pop_net.proofs.DigitSet.{digit_set, digit_part}

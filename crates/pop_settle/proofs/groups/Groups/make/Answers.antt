@@ -1,6 +1,6 @@
 use Rattle.std.proofs.Common.{◌≡◌, length, sym, ◌∙◌}
 use Rattle.std.proofs.lemmas.Bool.{both_ways}
-use Rattle.pop_net.specs.LeafModel.{silent_move}
+use Rattle.pop_leaf.specs.LeafModel.{silent_move}
 use Rattle.pop_settle.proofs.Grouping.{alike_groups, puts_alike, no_first, no_second, no_other, put_back, least_pair, made_groups}
 use Rattle.pop_settle.proofs.groups.Groups.make.Goals.{then-is_silent-via-then-is_silent, then-is_silent-via-else-is_silent+then-is_empty}
 use Rattle.pop_settle.proofs.groups.Groups.make.Goals as goal

@@ -1,6 +1,6 @@
 use Rattle.std.proofs.Common.{◌≡◌, ℕ, ◌≤◌, List, length, take, get_or, sym, subst, ◌∙◌, arith}
 use Rattle.std.specs.Prelude.{Option, IfSome}
-use Rattle.pop_net.specs.LeafModel.{LeafModel}
+use Rattle.pop_leaf.specs.LeafModel.{LeafModel}
 use Rattle.pop_net.specs.Lanes.{crowd_of}
 use Rattle.pop_settle.specs.Settlement.{states_in}
 use Rattle.pop_settle.specs.Groups.{AreGroups}

@@ -1,6 +1,6 @@
 use Rattle.std.proofs.Common.{length, rules}
-use Rattle.pop_net.specs.LeafModel.{IsLeaf, IsMoveBelow}
-use Rattle.pop_net.proofs.Quiet.{All-slice_get}
+use Rattle.pop_leaf.specs.LeafModel.{IsLeaf, IsMoveBelow}
+use Rattle.pop_leaf.proofs.Quiet.{All-slice_get}
 use Rattle.pop_settle.proofs.walk.Walk.make.Goals.{After-move_at-t}
 use Rattle.pop_settle.proofs.walk.Walk.make.Goals as goal
 

@@ -1,5 +1,5 @@
 use Rattle.std.proofs.Common.{◌≡◌, map, take}
-use Rattle.pop_net.specs.LeafModel.{LeafModel}
+use Rattle.pop_leaf.specs.LeafModel.{LeafModel}
 use Rattle.terminal_test.specs.Loud.{pairs_of_moves}
 use Rattle.terminal_test.proofs.pair_table.PairTable.new.Given as goal
 

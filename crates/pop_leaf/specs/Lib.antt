@@ -1,0 +1,12 @@
+pub mod LeafModel
+pub mod Hushed
+pub mod FirstFault
+pub mod LeafFaults
+pub mod NetModel
+pub mod InputCrowd
+pub mod Step
+pub mod Reachable
+pub mod Terminal
+pub mod Reaction
+pub mod ReactionTable
+pub mod Promises

@@ -1,5 +1,0 @@
-use Rattle.pop_net.proofs.Tables.{IsStill}
-use Rattle.pop_net.proofs.moves.all_pairs.Given as goal
-
-abbrev pub invariant-loop-k : goal.invariant-loop-k
-invariant-loop-k l = IsStill l.states l.k l.pairs.items
