@@ -9,26 +9,13 @@ proof has at most 2,000,000 nodes for a leaf, so the nodes are long where the bu
 from __future__ import annotations
 
 import os
-import shutil
 import subprocess
 import sys
 import tempfile
 import time
 
 from common import source
-
-TOP = os.path.dirname(os.path.dirname(os.path.abspath(__file__)))
-CRATES = [
-    "pop_io",
-    "json_shape",
-    "pres_ast",
-    "pres_tokens",
-    "pres_read",
-    "pop_net",
-    "net_json",
-    "cert_base",
-    "cert_json",
-]
+from over_crates import Small, built_over
 
 MAIN = source("kit/bundle_file.rt.in")
 
@@ -50,28 +37,8 @@ NODE = '["lin",[[0,-1],[1,1],[7,1],[8,-1]%s]]'
 
 
 def built(folder: str) -> dict[str, str]:
-    lines = [line for line in open(os.path.join(TOP, "crates.txt")) if line.split(":")[0] in CRATES]
-    for name in CRATES:
-        shutil.copytree(
-            os.path.join(TOP, "crates", name),
-            os.path.join(folder, "crates", name),
-            ignore=shutil.ignore_patterns("out", "must-fail"),
-        )
-    for name, parts in PROGRAMS.items():
-        os.makedirs(os.path.join(folder, "crates", name, "src"))
-        with open(os.path.join(folder, "crates", name, "src", "main.rt"), "w") as file:
-            file.write(MAIN % parts)
-    with open(os.path.join(folder, "crates.txt"), "w") as file:
-        file.write("".join(lines) + "plain: pop_io serde_json\nreader: pop_io net_json cert_json serde_json\n")
-    subprocess.run(["git", "init", "-q"], cwd=folder, check=True)
-    for name in PROGRAMS:
-        subprocess.run(
-            ["rt", "run"],
-            cwd=os.path.join(folder, "crates", name),
-            stdin=subprocess.DEVNULL,
-            stdout=subprocess.DEVNULL,
-        )
-    return {name: os.path.join(folder, "crates", name, "out", name) for name in PROGRAMS}
+    uses = {"plain": ["pop_io", "serde_json"], "reader": ["pop_io", "net_json", "cert_json", "serde_json"]}
+    return built_over(folder, {name: Small(uses[name], {"src/main.rt": MAIN % PROGRAMS[name]}) for name in PROGRAMS})
 
 
 def measured(program: str, path: str) -> tuple[float, int, int]:

@@ -11,15 +11,13 @@ from __future__ import annotations
 
 import json
 import os
-import shutil
 import subprocess
 import tempfile
 
-from tree import TOP, measured
-
 from common import source
+from over_crates import Small, built_over
+from tree import measured
 
-CRATES = ["pop_io", "pop_lines", "json_shape", "pop_net", "net_json", "pop_crowd", "terminal_test"]
 LEAVES = 8
 SIZES = [1_024, 8_192, 65_536]
 
@@ -42,25 +40,9 @@ def net_line() -> str:
 
 
 def built(folder: str) -> str:
-    lines = [line for line in open(os.path.join(TOP, "crates.txt")) if line.split(":")[0] in CRATES]
-    crate = os.path.join(folder, "crates", "pairs")
-    for name in CRATES:
-        shutil.copytree(
-            os.path.join(TOP, "crates", name),
-            os.path.join(folder, "crates", name),
-            ignore=shutil.ignore_patterns("out", "must-fail"),
-        )
-    for path, text in [("src/main.rt", MAIN), ("proofs/words_of/Invariants.antt", INVARIANT)]:
-        os.makedirs(os.path.dirname(os.path.join(crate, path)), exist_ok=True)
-        with open(os.path.join(crate, path), "w") as file:
-            file.write(text)
-    with open(os.path.join(folder, "crates.txt"), "w") as file:
-        file.write("".join(lines) + "pairs: pop_io pop_lines pop_net net_json pop_crowd terminal_test serde_json\n")
-    subprocess.run(["git", "init", "-q"], cwd=folder, check=True)
-    subprocess.run(
-        ["rt", "run"], cwd=crate, stdin=subprocess.DEVNULL, stdout=subprocess.DEVNULL, stderr=subprocess.DEVNULL
-    )
-    return os.path.join(crate, "out", "pairs")
+    files = {"src/main.rt": MAIN, "proofs/words_of/Invariants.antt": INVARIANT}
+    uses = ["pop_io", "pop_lines", "pop_net", "net_json", "pop_crowd", "terminal_test", "serde_json"]
+    return built_over(folder, {"pairs": Small(uses, files)})["pairs"]
 
 
 def built_plain(folder: str) -> str:

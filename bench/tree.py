@@ -10,7 +10,6 @@ from __future__ import annotations
 
 import json
 import os
-import shutil
 import subprocess
 import tempfile
 import time
@@ -18,26 +17,7 @@ from collections.abc import Iterator
 from typing import Any
 
 from common import source
-
-TOP = os.path.dirname(os.path.dirname(os.path.abspath(__file__)))
-CRATES = [
-    "pop_io",
-    "json_shape",
-    "pres_ast",
-    "pres_tokens",
-    "pres_read",
-    "pop_net",
-    "net_json",
-    "pop_crowd",
-    "cert_base",
-    "cert_layers",
-    "cert_linear",
-    "tree_faults",
-    "cert_traps",
-    "cert_tree",
-    "cert_json",
-    "pop_checker",
-]
+from over_crates import Small, built_over
 
 # the greatest value of a state, the bound, and the coefficients
 TOP_VALUE, BOUND, COEFS = 42, 41, [42, -42]
@@ -154,24 +134,8 @@ def bundles() -> Iterator[tuple[str, str]]:
 
 
 def built(folder: str) -> str:
-    lines = [line for line in open(os.path.join(TOP, "crates.txt")) if line.split(":")[0] in CRATES]
-    crate = os.path.join(folder, "crates", "trees")
-    for name in CRATES:
-        shutil.copytree(
-            os.path.join(TOP, "crates", name),
-            os.path.join(folder, "crates", name),
-            ignore=shutil.ignore_patterns("out", "must-fail"),
-        )
-    os.makedirs(os.path.join(crate, "src"))
-    with open(os.path.join(crate, "src", "main.rt"), "w") as file:
-        file.write(MAIN)
-    with open(os.path.join(folder, "crates.txt"), "w") as file:
-        file.write("".join(lines) + "trees: pop_io cert_json pop_checker serde_json\n")
-    subprocess.run(["git", "init", "-q"], cwd=folder, check=True)
-    subprocess.run(
-        ["rt", "run"], cwd=crate, stdin=subprocess.DEVNULL, stdout=subprocess.DEVNULL, stderr=subprocess.DEVNULL
-    )
-    return os.path.join(crate, "out", "trees")
+    uses = ["pop_io", "cert_json", "pop_checker", "serde_json"]
+    return built_over(folder, {"trees": Small(uses, {"src/main.rt": MAIN})})["trees"]
 
 
 def measured(program: str, path: str) -> tuple[float, float, int, int]:

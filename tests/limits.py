@@ -16,7 +16,7 @@ WANTED = {
     "pop_io": ("NAME_LIMIT", "VARIABLE_LIMIT", "WORKER_LIMIT", "SHARD_LIMIT", "INPUT_LIMIT"),
     "pres_ast": ("COEFFICIENT_LIMIT", "BOUND_LIMIT", "MODULUS_LIMIT", "WEIGHT_LIMIT"),
     "pres_read": ("PARENTHESIS_LIMIT", "TEXT_LIMIT"),
-    "pop_net": (
+    "pop_leaf": (
         "STATE_LIMIT",
         "NARROW_STATE_LIMIT",
         "MOVE_LIMIT",

@@ -23,7 +23,7 @@ _CRATE = re.compile(r"crate ([a-z_0-9]+):")
 EVERY = 1.0  # seconds between two looks at the clock on a terminal
 WIDTH = 79
 MAIN = TOP / "crates" / "pop_main"
-BOTTOM = TOP / "crates" / "pop_net"
+BOTTOM = TOP / "crates" / "pop_leaf"
 TOPMOST = ("tool_commands", "pop_tool", "pop_main")  # these wait for all others, and for one another
 
 
