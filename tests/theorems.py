@@ -127,7 +127,6 @@ TOP_CRATES = (
     "tool_runs",
     "tool_makers",
     "tool_demos",
-    "tool_commands",
     "pop_tool",
     "pop_main",
 )

@@ -1,3 +1,6 @@
+pub mod Ready
+pub mod Endings
+pub mod OneOutput
 mod Replies
 mod Puts
 mod OneAnswer

@@ -10,8 +10,8 @@ use Rattle.tool_texts.specs.declared.refusal.Refusal.{Refusal}
 use Rattle.tool_texts.specs.declared.refusal.Refusal.TheVariants.{TooLong}
 use Rattle.tool_texts.specs.declared.output.Output.{Output}
 use Rattle.tool_texts.specs.Refusals.{output_for}
-use Rattle.tool_commands.specs.Commands.{CommandGives, IsDetermined, reads}
-use Rattle.tool_commands.proofs.OneOutput.{one_given}
+use Rattle.pop_tool.specs.Commands.{CommandGives, IsDetermined, reads}
+use Rattle.pop_tool.proofs.OneOutput.{one_given}
 use Rattle.pop_tool.specs.Answer.{InputGives, OfMeaning}
 use Rattle.pop_tool.specs.OneAnswer.{IsOneAnswer}
 

@@ -16,8 +16,8 @@ use Rattle.tool_texts.specs.declared.refusal.Refusal.TheVariants.{TooLong}
 use Rattle.tool_texts.specs.declared.output.Output.{Output}
 use Rattle.tool_texts.specs.declared.output.Ending.TheVariants.{ReadFault}
 use Rattle.tool_texts.specs.Refusals.{usage_output, refusal_output, output_for, read_fault}
-use Rattle.tool_commands.specs.Commands.{CommandGives, reads}
-use Rattle.tool_commands.proofs.Endings.{given_ending}
+use Rattle.pop_tool.specs.Commands.{CommandGives, reads}
+use Rattle.pop_tool.proofs.Endings.{given_ending}
 use Rattle.pop_tool.specs.Answer.{InputGives, IsOfCommand, OfMeaning, Answer}
 use Rattle.pop_tool.specs.Source.{IsReadToEnd, meaning_reads}
 use Rattle.pop_tool.specs.Outcome.{HasLeft}

@@ -9,7 +9,7 @@ use Rattle.tool_texts.specs.declared.refusal.Refusal.{Refusal}
 use Rattle.tool_texts.specs.declared.refusal.Refusal.TheVariants.{TooLong}
 use Rattle.tool_texts.specs.declared.output.Output.{Output}
 use Rattle.tool_texts.specs.Refusals.{usage_output, output_for}
-use Rattle.tool_commands.specs.Commands.{CommandGives, reads}
+use Rattle.pop_tool.specs.Commands.{CommandGives, reads}
 
 -- what a command gives for an input, which has a limit if it is read
 abbrev pub InputGives : Command → List ℕ → Result Output Refusal → Type 0

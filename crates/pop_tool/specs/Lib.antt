@@ -1,3 +1,4 @@
+pub mod Commands
 pub mod Plain
 pub mod Answer
 pub mod Outcome

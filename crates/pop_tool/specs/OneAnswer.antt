@@ -2,7 +2,7 @@
 use Rattle.std.specs.Prelude.{◌≡◌, ℕ, List, IfOk}
 use Rattle.pop_words.specs.Words.{meaning_of}
 use Rattle.tool_texts.specs.declared.output.Output.{Output}
-use Rattle.tool_commands.specs.Commands.{IsDetermined}
+use Rattle.pop_tool.specs.Commands.{IsDetermined}
 use Rattle.pop_tool.specs.Answer.{Answer}
 
 -- the words mean no command, or one that leaves no choice

@@ -5,7 +5,7 @@ use Rattle.pop_io.specs.declared.whole.TheConstants.{INPUT_LIMIT}
 use Rattle.pop_words.specs.declared.command.Command.{Command}
 use Rattle.pop_words.specs.declared.command.Usage.{Usage}
 use Rattle.pop_words.specs.Words.{meaning_of}
-use Rattle.tool_commands.specs.Commands.{reads}
+use Rattle.pop_tool.specs.Commands.{reads}
 
 -- a suffix of what there was
 abbrev pub HasSuffix : Option (List ℕ) → Option (List ℕ) → Type 0

@@ -6,16 +6,16 @@ ghost use Rattle.pop_words.specs.declared.words.TheConstants.{WORD_LIMIT};
 ghost use Rattle.pop_words.specs.CommandLine.{texts_of};
 ghost use Rattle.pop_words.specs.Words.{HasLimits};
 ghost use Rattle.tool_courses.specs.Prepared.{LeadsTo, NeedsNoThreads};
-ghost use Rattle.tool_commands.specs.Commands.{IsPlain};
+ghost use Rattle.pop_tool.specs.Commands.{IsPlain};
 ghost use Rattle.pop_tool.specs.Plain.{ArePlain};
 ghost use Rattle.pop_tool.specs.Answer.{IsOfCommand};
 ghost use Rattle.pop_tool.specs.Source.{HasSuffix, words_read};
 ghost use Rattle.pop_tool.specs.Written.{IsRightOutput};
 
+use crate::table::{prepare_command, reads_input};
 use pop_io::{Failure, NoMemory, ReadAll, Source, read_all};
 use pop_words::{Command, read_words};
 use std::alloc::Global;
-use tool_commands::{prepare_command, reads_input};
 use tool_courses::Prepared;
 use tool_texts::{Output, Refusal, Stop};
 

@@ -10,13 +10,13 @@ ghost use Rattle.pop_tool.specs.Written.{IsRightOutput};
 
 use crate::perform::{perform, perform_alone};
 use crate::prepare::prepare;
+use crate::table::is_plain_command;
 use crate::write::write;
 use pop_io::{Gate, NoMemory, Sink, Source};
 use pop_words::read_words;
 use std::alloc::Global;
 use std::sync::Wait;
 use std::thread::Threads;
-use tool_commands::is_plain_command;
 use tool_texts::{Output, Status};
 
 /// Reads the whole input, and writes the text that answers the words and the input in one call. It waits for no thread,

@@ -1,6 +1,6 @@
 use Rattle.std.proofs.Common.{◌≡◌, false, map, Err, sym, ap, rules}
 use Rattle.std.proofs.lemmas.Result.{IfOk-weaker}
-use Rattle.tool_commands.specs.Commands.{reads}
+use Rattle.pop_tool.specs.Commands.{reads}
 use Rattle.tool_courses.proofs.Leads.{text_leads, leads_wider}
 use Rattle.pop_tool.proofs.Replies.{usage_right, command_right, long_right, fault_right, unread_right, long_input, whole_input}
 use Rattle.pop_tool.proofs.prepare.prepare.Goals as goal

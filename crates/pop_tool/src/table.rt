@@ -4,7 +4,7 @@ ghost use Rattle.std.specs.Prelude.{◌≡◌, ◌↔◌, ◌<◌, ◌^◌, leng
 ghost use Rattle.pop_lines.specs.Lines.{lines_of};
 ghost use Rattle.pop_words.specs.Words.{HasLimits};
 ghost use Rattle.tool_courses.specs.Prepared.{Prepares, NeedsNoThreads};
-ghost use Rattle.tool_commands.specs.Commands.{CommandGives, IsPlain, reads, ready};
+ghost use Rattle.pop_tool.specs.Commands.{CommandGives, IsPlain, reads, ready};
 
 use comp_net::LeafChoice;
 use pop_words::Command;
@@ -19,7 +19,11 @@ use tool_runs::{is_by_one, prepare_run};
 use tool_texts::{Output, Stop};
 
 /// What a command prepares for an input that isn't too long.
-pub fn prepare_command(alloc: Global, command: Command, input: &[u8]) -> Result<Prepared, Stop>
+pub(crate) fn prepare_command(
+    alloc: Global,
+    command: Command,
+    input: &[u8],
+) -> Result<Prepared, Stop>
     requires short { length input.now < 2 ^ 32 }
     requires limits { HasLimits command }
     ensures leads { Prepares (CommandGives command (lines_of input.now)) result }
@@ -53,7 +57,7 @@ fn ready(output: Result<Output, Stop>) -> Result<Prepared, Stop>
 }
 
 /// Whether a command reads an input.
-pub fn reads_input(command: &Command) -> bool
+pub(crate) fn reads_input(command: &Command) -> bool
     ensures { result ≡ reads command.now }
 {
     match command {
@@ -63,7 +67,7 @@ pub fn reads_input(command: &Command) -> bool
 }
 
 /// Whether a command needs no threads.
-pub fn is_plain_command(command: &Command) -> bool
+pub(crate) fn is_plain_command(command: &Command) -> bool
     ensures { IsTrue result ↔ IsPlain command.now }
 {
     match command {

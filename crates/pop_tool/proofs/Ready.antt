@@ -7,7 +7,7 @@ use Rattle.tool_texts.specs.declared.output.Output.{Output}
 use Rattle.tool_texts.specs.Steps.{GivesStep, Obeys, Stop}
 use Rattle.tool_courses.specs.declared.prepared.Prepared.{Prepared}
 use Rattle.tool_courses.specs.Prepared.{Prepares}
-use Rattle.tool_commands.specs.Commands.{CommandGives, ready}
+use Rattle.pop_tool.specs.Commands.{CommandGives, ready}
 use Rattle.tool_courses.proofs.Leads.{text_leads}
 
 pub ready_leads : (rule : Result Output Refusal → Type 0) (given : Result Output Stop) → Obeys rule (λ output. output) given → Prepares rule (ready given)

@@ -1,7 +1,7 @@
 use Rattle.pop_words.specs.declared.command.Command.TheVariants.{Play, Eval, Check, Replay, ReplayWatched, Settle, Compile, Flocks}
 use Rattle.pop_words.specs.declared.command.Command.TheVariants.{Show, Succinct}
-use Rattle.tool_commands.proofs.Ready.{command_ready, step_obeys}
-use Rattle.tool_commands.proofs.table.prepare_command.Goals as goal
+use Rattle.pop_tool.proofs.Ready.{command_ready, step_obeys}
+use Rattle.pop_tool.proofs.table.prepare_command.Goals as goal
 
 pub returns-in-Play-clause-leads : goal.returns-in-Play-clause-leads
 returns-in-Play-clause-leads c = command_ready c.args.command Play _ c.play_input.result c.ready.result c.in-Play.is c.play_input.ensures c.ready.ensures

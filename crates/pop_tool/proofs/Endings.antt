@@ -16,7 +16,7 @@ use Rattle.tool_proofs.proofs.Endings.{check_other, show_other, settle_other}
 use Rattle.tool_runs.proofs.Endings.{run_other}
 use Rattle.tool_replays.proofs.Endings.{replay_other}
 use Rattle.tool_demos.proofs.Endings.{demo_other}
-use Rattle.tool_commands.specs.Commands.{CommandGives}
+use Rattle.pop_tool.specs.Commands.{CommandGives}
 
 pub given_ending : (command : Command) (lines : List (List ℕ)) (given : Result Output Refusal) → CommandGives command lines given → (output_for given).ending ≢ ReadFault
 given_ending Play lines given is = play_other lines given is

@@ -6,7 +6,7 @@ use Rattle.pop_words.specs.declared.command.Command.TheVariants.{Show, Succinct}
 use Rattle.run_spec.specs.declared.kind.RunKind.TheVariants.{Whole, Watched}
 use Rattle.tool_texts.specs.declared.refusal.Refusal.{Refusal}
 use Rattle.tool_texts.specs.declared.output.Output.{Output}
-use Rattle.tool_commands.specs.Commands.{CommandGives, IsDetermined}
+use Rattle.pop_tool.specs.Commands.{CommandGives, IsDetermined}
 use Rattle.tool_nets.proofs.OnePlay.{one_play}
 use Rattle.tool_proofs.proofs.OneCheck.{one_check}
 use Rattle.tool_proofs.proofs.OneShow.{one_show}

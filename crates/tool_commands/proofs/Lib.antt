@@ -1,3 +1,0 @@
-pub mod Ready
-pub mod Endings
-pub mod OneOutput
