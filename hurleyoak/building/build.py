@@ -1,4 +1,8 @@
-"""Proves and builds the program; the one that stands goes on being used until the new one is there."""
+"""Proves and builds the program; the one that stands goes on being used until the new one is there.
+
+The toolchain's gate does it, in a folder of its own, over the crates that the program stands on and without must-fail
+edits. It keeps what it has proved beside the toolchain. So a later build proves what changed, and the crates above it.
+"""
 from __future__ import annotations
 
 import os
@@ -7,9 +11,9 @@ import select
 import shutil
 import subprocess
 import sys
+import tempfile
 import time
 from pathlib import Path
-from typing import Sequence
 
 from ..engine.places import BUILT, STANDING, TOP
 from ..statuses import DONE, NOT_BUILT
@@ -19,20 +23,19 @@ from ..engine import sources
 from ..engine.lock import LOCK, Lock, holder
 
 FIRST_TIME = "the first time this takes about half an hour on four processors"
-_CRATE = re.compile(r"crate ([a-z_0-9]+):")
+_CRATE = re.compile(r"rt: ([a-z_0-9]+)(?: proved$| is kept:)")
+_PROVED = ": proved\n"  # the end of what the gate says of a function
 EVERY = 1.0  # seconds between two looks at the clock on a terminal
 WIDTH = 79
-MAIN = TOP / "crates" / "pop_main"
-BOTTOM = TOP / "crates" / "pop_leaf"
-TOPMOST = ("tool_commands", "pop_tool", "pop_main")  # these wait for all others, and for one another
+MAIN = "pop_main"
+HANDLES = TOP / "HANDLES"  # what the crates may reach
 
 
 class Progress:
     """Which crate was checked last: a line for each, or on a terminal one line with the time."""
 
     def __init__(self) -> None:
-        self.below = sources.needed("pop_main")
-        self.all = len(self.below)
+        self.all = len(sources.needed(MAIN))
         self.seen: dict[str, None] = {}
         self.start = time.monotonic()
         self.on_terminal = sys.stderr.isatty()
@@ -45,11 +48,6 @@ class Progress:
             if not self.on_terminal:
                 say([f"{len(self.seen)} of {self.all}: {found.group(1)}"])
         self.tick()
-
-    def has_all_but(self, crates: Sequence[str]) -> bool:
-        """Whether the toolchain has spoken of all crates below the main one but these; what it leaves undone the last
-        command does."""
-        return bool(self.below) and not self.below - set(self.seen) - set(crates) and len(self.below) > len(crates)
 
     def tick(self) -> None:
         """Shows the time on a terminal."""
@@ -65,16 +63,26 @@ class Progress:
             print(file=sys.stderr, flush=True)
 
 
-def _run(
-    words: list[str], folder: Path, log: list[str], progress: Progress, lock: Lock, until: Sequence[str] = ()
-) -> None:
-    """Runs the toolchain; with `until`, up to the moment at which no crates but these are left."""
+def _copy_sources(room: Path) -> None:
+    """Copies the crates that the program stands on, without their must-fail edits."""
+    below = sources.needed(MAIN)
+    for name in sorted(below):
+        of, to = sources.CRATES / name, room / "crates" / name
+        shutil.copytree(of, to, ignore=shutil.ignore_patterns("out", "must-fail"))
+    lines = sources.LIST.read_text().splitlines(keepends=True)
+    (room / sources.LIST.name).write_text("".join(line for line in lines if line.split(":")[0].strip() in below))
+    if HANDLES.exists():
+        shutil.copy2(HANDLES, room)
+
+
+def _prove(folder: Path, log: list[str], progress: Progress, lock: Lock) -> bool:
+    """Runs the toolchain's gate over a folder; whether all passed."""
     try:
         # (the toolchain's command is Python's, and keeps its lines back where nobody asks for them; it has the lock
         # too, so that who ends this process alone leaves no second build beside the first)
         told = {**os.environ, "PYTHONUNBUFFERED": "1"}
         run = subprocess.Popen(
-            words,
+            ["rt", "ci"],
             cwd=folder,
             env=told,
             stdin=subprocess.DEVNULL,
@@ -83,8 +91,8 @@ def _run(
             pass_fds=[lock.number],
         )
     except OSError as error:
-        log.append(f"{words[0]}: {error.strerror}; the toolchain's command `rt` has to be on the path\n")
-        return
+        log.append(f"rt: {error.strerror}; the toolchain's command `rt` has to be on the path\n")
+        return False
     assert run.stdout is not None
     try:
         rest = b""
@@ -97,11 +105,8 @@ def _run(
             for line in lines + ([rest] if not piece and rest else []):
                 log.append(line.decode(errors="replace") + "\n")
                 progress.line(log[-1])
-            if until and progress.has_all_but(until):
-                run.terminate()
             if not piece:
-                break
-        run.wait()
+                return run.wait() == 0
     except BaseException:
         run.terminate()
         raise
@@ -142,26 +147,29 @@ def build() -> int:
         lock.release()
 
 
+def _take(program: Path) -> None:
+    """Puts a program in the place of the built one."""
+    BUILT.parent.mkdir(parents=True, exist_ok=True)
+    made = BUILT.with_suffix(".new")
+    shutil.copy2(program, made)
+    os.replace(made, BUILT)
+
+
 def _build(lock: Lock) -> int:
     of = sources.checksum()
     _keep_standing()
     say([f"proving and building the program; {FIRST_TIME}"])
-    before = BUILT.stat().st_mtime_ns if BUILT.exists() else 0
     log: list[str] = []
     progress = Progress()
-    jobs = ["--jobs", str(os.cpu_count() or 1)]
-    # (all processors on the crates below, where no other is ready; then one for each crate; then all on those above,
-    # one after the other)
-    if BOTTOM.exists():
-        _run(["rt", "check", *jobs], BOTTOM, log, progress, lock)
-    _run(["rt", "all", "check", *jobs], MAIN, log, progress, lock, TOPMOST)
-    _run(["rt", "run", *jobs], MAIN, log, progress, lock)
-    progress.end()
-    if not os.access(BUILT, os.X_OK) or BUILT.stat().st_mtime_ns == before:
-        sys.stderr.write("".join(log))
-        if STANDING.exists() and not BUILT.exists():
-            shutil.copy2(STANDING, BUILT)
-        say(["the program could not be built; its log is above"])
-        return NOT_BUILT
-    sources.record(of)
-    return DONE
+    with tempfile.TemporaryDirectory(prefix="pop-build-") as folder:
+        _copy_sources(Path(folder))
+        is_proved = _prove(Path(folder), log, progress, lock)
+        progress.end()
+        made = Path(folder, "crates", MAIN, "out", MAIN)
+        if is_proved and os.access(made, os.X_OK):
+            _take(made)
+            sources.record(of)
+            return DONE
+    sys.stderr.write("".join(line for line in log if not line.endswith(_PROVED)))
+    say(["the program could not be built; its log is above"])
+    return NOT_BUILT

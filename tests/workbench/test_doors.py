@@ -237,12 +237,12 @@ def test_a_stale_program_never_answers(checkout: Path) -> None:
 def test_a_killed_builder_s_toolchain_has_the_lock(checkout: Path) -> None:
     tools = checkout / "tools"
     tools.mkdir()
-    (tools / "rt").write_text("#!/bin/sh\ntouch ../started started 2>/dev/null\nexec sleep 6\n")
+    (tools / "rt").write_text('#!/bin/sh\ntouch "$STARTED"\nexec sleep 6\n')
     (tools / "rt").chmod(0o755)
     (checkout / "crates.txt").write_text("pop_main:\n")
     (checkout / "crates/pop_main/out/pop_main").unlink()
     environment = {name: value for name, value in os.environ.items() if name != "POP_MAIN"}
-    environment["PATH"] = f"{tools}:{environment['PATH']}"
+    environment.update(PATH=f"{tools}:{environment['PATH']}", STARTED=str(checkout / "started"))
     run = subprocess.Popen([str(checkout / "bin" / "pop"), "build"], stderr=subprocess.DEVNULL, env=environment)
     for _ in range(200):
         if (checkout / "started").exists():

@@ -25,8 +25,8 @@ ENDLESS_WORDS = ("serve",)  # they answer until they are interrupted: test_serve
 RT = """#!/bin/sh
 case "$1" in
     version) echo kit of the test ;;
-    all) echo 'crate pop_main: modules loaded=1' ;;
-    run) mkdir -p out; printf '#!/bin/sh\\nexec "%s" "$@"\\n' "$REAL" >out/pop_main; chmod +x out/pop_main ;;
+    ci) echo 'rt: pop_main proved'; mkdir crates/pop_main/out
+        printf '#!/bin/sh\\nexec "%s" "$@"\\n' "$REAL" >crates/pop_main/out/pop_main; chmod +x crates/pop_main/out/pop_main ;;
     try) shift 4; exec "$REAL" "$@" ;;
 esac
 """
