@@ -52,10 +52,11 @@ def built_over(folder: str, programs: dict[str, Small]) -> dict[str, str]:
     own = [f"{name}: {' '.join(program.uses)}\n" for name, program in programs.items()]
     write(os.path.join(folder, "crates.txt"), "".join([*lines.values(), *own]))
     subprocess.run(["git", "init", "-q"], cwd=folder, check=True)
-    quiet = subprocess.DEVNULL
+    crates = {name: os.path.join(folder, "crates", name) for name in programs}
     for name, program in programs.items():
-        crate = os.path.join(folder, "crates", name)
         for place, text in program.files.items():
-            write(os.path.join(crate, place), text)
+            write(os.path.join(crates[name], place), text)
+    quiet = subprocess.DEVNULL
+    for crate in crates.values():
         subprocess.run(["rt", "run"], cwd=crate, stdin=quiet, stdout=quiet, stderr=quiet)
-    return {name: os.path.join(folder, "crates", name, "out", name) for name in programs}
+    return {name: os.path.join(crate, "out", name) for name, crate in crates.items()}
