@@ -76,7 +76,7 @@ impl<'n> Field<'n> {
 }
 
 impl FieldSeat {
-    ghost use Rattle.agent_field.specs.Seats.{seat_number, made_of, spare_of, left_of, looks_of, spare_looks_of};
+    ghost use Rattle.agent_field.specs.Seats.{seat_number, made_of, spare_of, left_of, looks_of};
     ghost use Rattle.agent_field.specs.Calls.{HasReserved};
 
     /// The seat's number, from 0.
@@ -112,13 +112,6 @@ impl FieldSeat {
         ensures { result ≡ length (looks_of self.now) }
     {
         self.looks.len() as u16
-    }
-
-    /// How many more looks it has room for.
-    pub fn spare_looks(&self) -> u16
-        ensures { result ≡ spare_looks_of self.now }
-    {
-        self.rooms.len() as u16
     }
 
     /// One of the looks, in the order in which they were made.

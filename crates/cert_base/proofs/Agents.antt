@@ -11,7 +11,7 @@ use Rattle.pop_leaf.proofs.Quiet.{All-slice_get}
 use Rattle.pop_leaf.proofs.Reactions.{and_left, and_right}
 use Rattle.cert_base.proofs.Numbers.{number_in}
 use Rattle.cert_base.proofs.Dead.{IsEnabledIn, number_in-cons}
-use Rattle.list_laws.proofs.Numbers.{Tells}
+use Rattle.base_laws.proofs.Numbers.{Tells}
 
 -- an agent in a state
 abbrev pub Agent : List ℕ → ℕ → Type 0

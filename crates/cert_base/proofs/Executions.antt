@@ -16,7 +16,7 @@ use Rattle.cert_base.specs.declared.fact.Fact.TheVariants.{Ge, Eq, Cong, NotCong
 use Rattle.cert_base.specs.Valuation.{Valuation, terms_value, row_value, MeetsFact, times_taken, IsOfExecution}
 use Rattle.cert_base.specs.FactsAndCases.{states_of, flow, has_inputs_alone, is_about_inputs}
 use Rattle.cert_base.proofs.FlowFacts.{flow_met}
-use Rattle.list_laws.proofs.Ranges.{all_range}
+use Rattle.base_laws.proofs.Ranges.{all_range}
 
 abbrev pub count_for : LeafModel → List ℕ → List ℕ → (ℕ → ℕ) → Valuation
 count_for leaf counts end taken v =

@@ -18,8 +18,8 @@ use Rattle.cert_base.specs.Rows.{terms_from, move_variable, state_variable}
 use Rattle.cert_base.specs.FactsAndCases.{indicator, states_of, helpers_starting, is_in, flow}
 use Rattle.cert_base.specs.Parts.{term_of, change_at, flow_terms, flow_rows_after, entered_rows}
 use Rattle.cert_base.proofs.TermLists.{terms_from-cons, terms_from-append, terms_from-next, minus_one_at, terms_from-state}
-use Rattle.list_laws.proofs.Lists.{get-set_same, take_one_more, same_lists, slice_get-set_other}
-use Rattle.list_laws.proofs.Ranges.{get-range}
+use Rattle.base_laws.proofs.Lists.{get-set_same, take_one_more, same_lists, slice_get-set_other}
+use Rattle.base_laws.proofs.Ranges.{get-range}
 
 -- ---- lists
 

@@ -6,7 +6,7 @@ use Rattle.std.proofs.lemmas.Option.{get_or_from_slice_get, slice_get_within}
 use Rattle.pop_leaf.specs.declared.leaf.Move.{Move}
 use Rattle.pop_leaf.specs.LeafModel.{LeafModel, one_at, times_in_pair, pre, post}
 use Rattle.pop_leaf.specs.Step.{Follows, LeafStep}
-use Rattle.list_laws.proofs.Lists.{slice_get-set_other}
+use Rattle.base_laws.proofs.Lists.{slice_get-set_other}
 
 -- how many agents are in state z
 abbrev pub number_in : ℕ → List ℕ → ℕ

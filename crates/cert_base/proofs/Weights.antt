@@ -6,7 +6,7 @@ use Rattle.pop_leaf.specs.declared.leaf.Move.{Move}
 use Rattle.pop_leaf.specs.LeafModel.{LeafModel}
 use Rattle.pop_leaf.specs.Step.{Follows, LeafMove, LeafStep}
 use Rattle.cert_base.specs.ValidLayers.{weight_at, IsLower}
-use Rattle.list_laws.proofs.Lists.{slice_get-set_other}
+use Rattle.base_laws.proofs.Lists.{slice_get-set_other}
 
 -- the weights of all agents together
 abbrev pub total : List ℤ → List ℕ → ℤ

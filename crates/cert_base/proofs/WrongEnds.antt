@@ -24,7 +24,7 @@ use Rattle.cert_base.proofs.Executions.{flows_met}
 use Rattle.cert_base.proofs.FlowFacts.{dot, terms_value-terms_from}
 use Rattle.cert_base.proofs.Indicators.{sum_if, row_value-behind, sum_if-none}
 use Rattle.cert_base.proofs.InRange.{end_in_range}
-use Rattle.list_laws.proofs.Ranges.{get-range}
+use Rattle.base_laws.proofs.Ranges.{get-range}
 
 -- the state z of the range
 pub range_get : (n z : ℕ) → z < n → slice_get (range_with_len 0 n) z ≡ Some z

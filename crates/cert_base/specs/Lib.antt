@@ -1,5 +1,6 @@
 pub mod ProofBound
 pub mod ValidLayers
+pub mod TameLayers
 pub mod Rows
 pub mod Valuation
 pub mod FactsAndCases

@@ -14,11 +14,11 @@ use Rattle.cert_base.specs.GoalEnds.{IsWithin, IsWithinOne}
 use Rattle.cert_base.specs.ValidLayers.{moves_of_layers, ValidLayers}
 use Rattle.cert_base.proofs.InRange.{end_in_range}
 use Rattle.cert_layers.proofs.Termination.{leads-append, valid_layers-end}
-use Rattle.pop_hushed.proofs.Moves.{hushed_formed}
-use Rattle.goal_sets.specs.Stays.{IsGuarded, SleepIn}
-use Rattle.goal_sets.specs.Reached.{IsDeadFor, IsGoalEnd, IsAtGoal}
-use Rattle.goal_sets.specs.ClosedGoal.{ComesToGoal}
-use Rattle.goal_sets.proofs.CrowdsStay.{dead_permuted, held_on, guarded_held, end_on, goal_permuted}
+use Rattle.pop_leaf.proofs.HushedMoves.{hushed_formed}
+use Rattle.theory_sets.specs.Stays.{IsGuarded, SleepIn}
+use Rattle.theory_sets.specs.Reached.{IsDeadFor, IsGoalEnd, IsAtGoal}
+use Rattle.theory_sets.specs.ClosedGoal.{ComesToGoal}
+use Rattle.theory_sets.proofs.CrowdsStay.{dead_permuted, held_on, guarded_held, end_on, goal_permuted}
 use Rattle.cert_sets.specs.Layered.{layered}
 use Rattle.cert_sets.specs.SetFaults.{HasOutput, IsGoodSet, AreGoodSets}
 use Rattle.cert_goals.specs.GoalLaws.{GoalsHold}

@@ -3,12 +3,12 @@ use Rattle.std.proofs.Common.{◌≡◌, ◌≢◌, ◌⊎◌, inl, inr, ℕ, Bo
 use Rattle.std.specs.Prelude.{ℤ, ◌==◌, Contains, filter, negsuc, slice_index_or}
 use Rattle.std.proofs.lemmas.Bool.{cases_Bool}
 use Rattle.std.proofs.lemmas.Bool.Decides.{eqb_tells}
-use Rattle.list_laws.proofs.Lists.{has_first, has_later}
+use Rattle.base_laws.proofs.Lists.{has_first, has_later}
 use Rattle.pop_leaf.specs.LeafModel.{LeafModel}
 use Rattle.cert_base.specs.declared.fact.Fact.TheVariants.{Ge, Holds}
 use Rattle.cert_base.specs.Rows.{state_row}
 use Rattle.cert_base.specs.FactsAndCases.{indicator, is_in, states_of, flow, two_agents_fact, differs, wrong_output_fact, outside_fact, states_with}
-use Rattle.pop_hushed.proofs.Kept.{listed_kept}
+use Rattle.pop_leaf.proofs.Kept.{listed_kept}
 use Rattle.cert_goals.specs.GoalLaws.{FactsWithoutSets}
 
 and_false : (b : Bool) → (b && false) ≡ false

@@ -8,8 +8,8 @@ use Rattle.std.specs.Prelude.{ℕ, List}
 use Rattle.cert_base.specs.declared.proof.Goal.{Goal}
 use Rattle.cert_base.proofs.WrongEnds.{outside_ends-met}
 use Rattle.cert_tree.proofs.ClosedEnds.{goal_formed, closes_none}
-use Rattle.tree_faults.proofs.Inside.{none_inside}
-use Rattle.goal_sets.specs.Reached.{EndsWithinOne}
+use Rattle.cert_tree.proofs.Inside.{none_inside}
+use Rattle.theory_sets.specs.Reached.{EndsWithinOne}
 use Rattle.cert_goals.specs.ValidGoal.{moves_of_goal, dead_for, sets_of_goal, facts_of_goal, ValidGoal}
 use Rattle.cert_goals.specs.GoalLaws.{IsReachedGoal, goal_for, GoalsHold, ValidGoalsHold}
 use Rattle.cert_goals.proofs.Goals.{all_goals_hold}

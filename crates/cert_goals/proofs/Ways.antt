@@ -6,7 +6,7 @@ use Rattle.pop_leaf.specs.LeafModel.{LeafModel}
 use Rattle.pop_leaf.specs.Step.{LeafStep}
 use Rattle.pop_leaf.specs.Reachable.{Leads}
 use Rattle.pop_leaf.specs.Hushed.{hushed}
-use Rattle.pop_hushed.proofs.Crowds.{hushed_step, terminal_none}
+use Rattle.pop_leaf.proofs.Crowds.{hushed_step, terminal_none}
 use Rattle.cert_base.specs.declared.layer.Layer.{Layer}
 use Rattle.cert_base.specs.ValidLayers.{moves_of_layers}
 use Rattle.cert_layers.specs.declared.fault.LayerWhy.{LayerWhy}

@@ -10,8 +10,8 @@ use Rattle.cert_base.specs.declared.proof.Goal.{Goal}
 use Rattle.cert_base.specs.FactsAndCases.{base_list, goal_list, sets_of}
 use Rattle.cert_base.specs.ProofBound.{layers_bound}
 use Rattle.cert_base.specs.ValidLayers.{moves_of_layers, ValidLayers}
-use Rattle.goal_sets.specs.Reached.{EndsWithinOne}
-use Rattle.goal_sets.specs.ClosedGoal.{IsClosedGoal, ComesToGoal}
+use Rattle.theory_sets.specs.Reached.{EndsWithinOne}
+use Rattle.theory_sets.specs.ClosedGoal.{IsClosedGoal, ComesToGoal}
 use Rattle.cert_sets.specs.Layered.{layered}
 use Rattle.cert_sets.specs.SetFaults.{AreGoodSets}
 use Rattle.cert_goals.specs.ValidGoal.{moves_of_goal, sets_of_goal, ValidGoal}

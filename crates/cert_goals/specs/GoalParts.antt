@@ -10,7 +10,7 @@ use Rattle.cert_base.specs.FactsAndCases.{goal_list}
 use Rattle.cert_base.specs.Closes.{ClosesFor}
 use Rattle.cert_base.specs.ValidLayers.{moves_of_layers}
 use Rattle.cert_layers.specs.LayerFaults.{AreBrokenFirst}
-use Rattle.tree_faults.specs.Refusals.{IsFaultFor}
+use Rattle.cert_tree.specs.Refusals.{IsFaultFor}
 use Rattle.cert_goals.specs.declared.fault.GoalWhy.{GoalWhy}
 use Rattle.cert_goals.specs.declared.fault.GoalWhy.TheVariants.{Layers, Set, Node as NodeFault}
 use Rattle.cert_sets.specs.Layered.{layered}

@@ -4,7 +4,7 @@ use Rattle.pop_io.specs.declared.failure.Failure.{Failure}
 use Rattle.pop_leaf.specs.LeafModel.{LeafModel}
 use Rattle.pop_leaf.specs.Step.{LeafStep}
 use Rattle.pop_leaf.specs.Reachable.{ReachedWithin}
-use Rattle.pop_hushed.specs.Laws.{NoneCanTake}
+use Rattle.pop_leaf.specs.Laws.{NoneCanTake}
 use Rattle.cert_base.specs.declared.layer.Layer.{Layer}
 use Rattle.cert_base.specs.ValidLayers.{moves_of_layers}
 use Rattle.cert_layers.specs.declared.fault.LayerWhy.{LayerWhy}
@@ -18,7 +18,7 @@ ComesToNone leaf moves k =
     (crowd : List ℕ) → 2 ≤ length crowd → All (λ q. q < length leaf.states) crowd
     → (end : List ℕ) × NoneCanTake leaf moves end × ReachedWithin (LeafStep leaf) (k * length crowd) crowd end
 
--- what `check_some_layers` says
+-- what the check of a goal's layers says
 pub record ChecksSomeLayers (leaf : LeafModel) (layers : List Layer) (result : Result ℕ (Failure LayerWhy)) : Type 0 where
   -- exactly what `check_layers` says of the leaf with the other moves made silent
   pub of_hushed : ChecksLayers (layered leaf layers) layers result

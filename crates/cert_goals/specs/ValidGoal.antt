@@ -12,7 +12,7 @@ use Rattle.cert_base.specs.ProofBound.{layers_bound}
 use Rattle.cert_base.specs.ProofLimits.{IsGoalWithin}
 use Rattle.cert_base.specs.ValidLayers.{moves_of_layers, ValidLayers}
 use Rattle.cert_layers.specs.LayerFaults.{AreBrokenFirst}
-use Rattle.tree_faults.specs.Refusals.{IsFaultFor}
+use Rattle.cert_tree.specs.Refusals.{IsFaultFor}
 use Rattle.cert_goals.specs.declared.fault.GoalWhy.{GoalWhy}
 use Rattle.cert_goals.specs.declared.fault.GoalWhy.TheVariants.{Layers, Set, Node}
 use Rattle.cert_sets.specs.Layered.{layered}

@@ -2,7 +2,7 @@
 
 use cert_layers::LayerWhy;
 use cert_sets::SetFault;
-use tree_faults::TreeFault;
+use cert_tree::TreeFault;
 
 /// The first part of a goal that isn't valid: first the layers, then the sets in order, then the nodes.
 #[derive(Clone, Copy, PartialEq, Eq)]

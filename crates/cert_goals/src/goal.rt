@@ -6,7 +6,7 @@ ghost use Rattle.cert_base.specs.FactsAndCases.{differs, sets_of, states_with};
 ghost use Rattle.cert_base.specs.ProofBound.{layers_bound};
 ghost use Rattle.cert_base.specs.ValidLayers.{moves_of_layers, ValidLayers};
 ghost use Rattle.cert_layers.specs.LayerFaults.{AreLayersWithin};
-ghost use Rattle.tree_faults.specs.Refusals.{AreNodesOf};
+ghost use Rattle.cert_tree.specs.Refusals.{AreNodesOf};
 ghost use Rattle.cert_sets.specs.Layered.{layered};
 ghost use Rattle.cert_sets.specs.SetFaults.{AreSetsWithin, AreGoodSets};
 ghost use Rattle.cert_goals.specs.ValidGoal.{IsGoalOf, ChecksGoal};

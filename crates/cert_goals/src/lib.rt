@@ -8,8 +8,7 @@ mod goal;
 mod law;
 mod layers;
 
-pub use cert_sets::{SetFault, check_sets, listed_moves};
+pub use cert_sets::{SetFault, listed_moves};
 pub use fault::GoalWhy;
 pub use goal::check_goal;
 pub use law::{facts_without_sets, goals_hold, valid_goals_hold};
-pub use layers::check_some_layers;

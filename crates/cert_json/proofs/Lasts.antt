@@ -3,7 +3,7 @@ use Rattle.std.proofs.Common.{◌≡◌, ◌≢◌, inl, inr, ◌⊎◌, ℕ, ze
 use Rattle.std.specs.Prelude.{option_map, slice_get}
 use Rattle.std.proofs.lemmas.Bool.Decides.{eqb_tells}
 use Rattle.std.proofs.lemmas.Option.{get_or_from_slice_get}
-use Rattle.json_shape.specs.Shapes.{last_of}
+use Rattle.base_json.specs.Shapes.{last_of}
 
 module _ {A : Type 0} (number : A → ℕ) where
   last_at : (xs : List A) (n : ℕ) → length xs ≡ n + 1 → option_map number (slice_get xs n) ≡ last_of (map number xs)

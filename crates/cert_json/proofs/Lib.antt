@@ -5,6 +5,9 @@ pub mod NodeLaws
 pub mod ProofLaws
 pub mod Members
 pub mod WrittenFiles
-pub mod BundleLaws
 pub mod ReadPreds
 pub mod TextFaults
+pub mod GoalLaws
+pub mod StableParts
+pub mod StableLaws
+pub mod StablePreds

@@ -4,7 +4,7 @@ use Rattle.std.proofs.lemmas.List.{map-append}
 use Rattle.serde_json.specs.Data.{Data, string, array, object, Members, no_members, put}
 use Rattle.serde_json.specs.View.{view, items_of}
 use Rattle.serde_json.specs.declared.value.Value.{Value}
-use Rattle.json_shape.proofs.Put.{made}
+use Rattle.base_json.proofs.Put.{made}
 use Rattle.net_json.specs.Written.{list_data, numbers_data}
 use Rattle.cert_base.specs.declared.layer.Layer.{Layer}
 use Rattle.cert_base.specs.declared.proof.LeafProof.{LeafProof}

@@ -3,14 +3,14 @@ use Rattle.std.proofs.Common.{◌≡◌, ℕ, ◌<◌, ◌≤◌, ◌^◌, Bool,
 use Rattle.std.specs.Str.{bytes_eq}
 use Rattle.std.proofs.lemmas.Slice.Eq.{bytes_eq-Decides}
 use Rattle.serde_json.specs.Data.{Data}
-use Rattle.json_shape.specs.Faults.{Fault, ◌>>=◌}
-use Rattle.json_shape.specs.Paths.{item_path}
-use Rattle.json_shape.specs.Shapes.{items_at, word_at, one_after, two_after, item_by, each_at}
-use Rattle.json_shape.specs.Parts.{IsNumber, IsInteger, IsOnly, AreBoth, BeginsWith, IsList}
-use Rattle.json_shape.proofs.Steps.{bind_ok, same_ok}
-use Rattle.json_shape.proofs.Readers
-use Rattle.json_shape.proofs.Fresh.{EachFrom-All, All-EachFrom}
-use Rattle.json_shape.proofs.TaggedReaders as Tagged
+use Rattle.base_json.specs.Faults.{Fault, ◌>>=◌}
+use Rattle.base_json.specs.Paths.{item_path}
+use Rattle.base_json.specs.Shapes.{items_at, word_at, one_after, two_after, item_by, each_at}
+use Rattle.base_json.specs.Parts.{IsNumber, IsInteger, IsOnly, AreBoth, BeginsWith, IsList}
+use Rattle.base_json.proofs.Steps.{bind_ok, same_ok}
+use Rattle.base_json.proofs.Readers
+use Rattle.base_json.proofs.Fresh.{EachFrom-All, All-EachFrom}
+use Rattle.base_json.proofs.TaggedReaders as Tagged
 use Rattle.cert_base.specs.declared.fact.Term.{Term}
 use Rattle.cert_base.specs.declared.node.Node.{Node}
 use Rattle.cert_base.specs.declared.node.Node.TheVariants.{Linear, Residue, Split, Present, Twin, Trap, Siphon, Open}

@@ -2,14 +2,14 @@
 use Rattle.std.proofs.Common.{◌≡◌, ℕ, ◌-◌, ◌<◌, ◌≤◌, ◌^◌, true, List, [], length, codes, Result, Ok, ℤ, refl, sym, subst, arith}
 use Rattle.std.specs.Prelude.{All}
 use Rattle.serde_json.specs.Data.{Data}
-use Rattle.json_shape.specs.Faults.{Fault, ◌>>=◌}
-use Rattle.json_shape.specs.Paths.{member_path, item_path}
-use Rattle.json_shape.specs.Shapes.{object_at, member_at, member_by, last_of, comes_after, ascending_at, pair_at, item_by, each_at}
-use Rattle.json_shape.specs.Parts.{IsNumber, IsInteger, IsList}
-use Rattle.json_shape.proofs.Steps.{bind_ok, same_ok}
-use Rattle.json_shape.proofs.Readers
-use Rattle.json_shape.proofs.Fresh.{EachFrom-All, All-EachFrom, EachFrom-weaker}
-use Rattle.json_shape.proofs.TaggedReaders as Tagged
+use Rattle.base_json.specs.Faults.{Fault, ◌>>=◌}
+use Rattle.base_json.specs.Paths.{member_path, item_path}
+use Rattle.base_json.specs.Shapes.{object_at, member_at, member_by, last_of, comes_after, ascending_at, pair_at, item_by, each_at}
+use Rattle.base_json.specs.Parts.{IsNumber, IsInteger, IsList}
+use Rattle.base_json.proofs.Steps.{bind_ok, same_ok}
+use Rattle.base_json.proofs.Readers
+use Rattle.base_json.proofs.Fresh.{EachFrom-All, All-EachFrom, EachFrom-weaker}
+use Rattle.base_json.proofs.TaggedReaders as Tagged
 use Rattle.cert_base.specs.declared.fact.Term.{Term}
 use Rattle.cert_base.specs.declared.layer.Layer.{Layer}
 use Rattle.cert_base.specs.ProofLimits.{IsSmall, IsAscending, IsTermWithin, AreTermsWithin, IsSetWithin, IsLayerWithin}

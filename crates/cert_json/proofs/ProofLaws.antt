@@ -2,14 +2,14 @@
 use Rattle.std.proofs.Common.{◌≡◌, ℕ, List, [], length, codes, Result, Ok, Err, refl, ap, subst, arith}
 use Rattle.std.specs.Prelude.{◌≢◌, IfOk, IfErr}
 use Rattle.serde_json.specs.Data.{Data}
-use Rattle.json_shape.specs.declared.fault.FormatFault.{FormatFault}
-use Rattle.json_shape.specs.declared.fault.FormatFault.TheVariants as fault
-use Rattle.json_shape.specs.Faults.{Fault, ◌>>=◌, GivesRead}
-use Rattle.json_shape.specs.Paths.{member_path, item_path}
-use Rattle.json_shape.specs.Shapes.{object_at, member_at, member_by, text_at, item_by, each_at}
-use Rattle.json_shape.proofs.Steps.{bind_ok, same_ok}
-use Rattle.json_shape.proofs.Readers
-use Rattle.json_shape.proofs.Fresh.{EachFrom-All, All-EachFrom}
+use Rattle.base_json.specs.declared.fault.FormatFault.{FormatFault}
+use Rattle.base_json.specs.declared.fault.FormatFault.TheVariants as fault
+use Rattle.base_json.specs.Faults.{Fault, ◌>>=◌, GivesRead}
+use Rattle.base_json.specs.Paths.{member_path, item_path}
+use Rattle.base_json.specs.Shapes.{object_at, member_at, member_by, text_at, item_by, each_at}
+use Rattle.base_json.proofs.Steps.{bind_ok, same_ok}
+use Rattle.base_json.proofs.Readers
+use Rattle.base_json.proofs.Fresh.{EachFrom-All, All-EachFrom}
 use Rattle.pres_ast.specs.PredModel.{PredModel}
 use Rattle.pres_read.specs.declared.fault.ReadPred.{ReadPred}
 use Rattle.pres_read.specs.Reading.{pred_read}

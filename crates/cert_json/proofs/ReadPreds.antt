@@ -1,13 +1,9 @@
 -- The predicates of a bundle's file are within the limits: no text is read to any other.
-use Rattle.std.proofs.Common.{◌≡◌, ℕ, zero, suc, ◌≤◌, Bool, true, false, List, [], ◌∷◌, length, ltb, IfOk, Result, Ok, Err, refl, subst, arith}
-use Rattle.std.specs.Prelude.{Some, slice_get, if◌then◌else◌, ◌||◌}
+use Rattle.std.proofs.Common.{◌≡◌, ℕ, ◌≤◌, Bool, true, false, List, [], ◌∷◌, length, ltb, IfOk, Result, Ok, Err, refl, subst, arith}
+use Rattle.std.specs.Prelude.{if◌then◌else◌, ◌||◌}
 use Rattle.std.proofs.lemmas.Bool.{ltb-false}
-use Rattle.std.proofs.lemmas.Option.{same_Some}
 use Rattle.serde_json.specs.Data.{Data}
-use Rattle.json_shape.specs.Parts.{AreItems}
-use Rattle.json_shape.specs.Shapes.{listed}
 use Rattle.pop_io.specs.declared.names.TheConstants.{VARIABLE_LIMIT}
-use Rattle.pop_leaf.specs.NetModel.{IsNet}
 use Rattle.pres_ast.specs.declared.limits.TheConstants.{WEIGHT_LIMIT}
 use Rattle.pres_ast.specs.PredTree.{PredTree}
 use Rattle.pres_ast.specs.PredModel.{PredModel, HasAtoms, IsPred}
@@ -24,10 +20,7 @@ use Rattle.pres_read.specs.Reading.{step, with_progress, run, tree_read, over_na
 use Rattle.pres_read.specs.Sound.{IsSoundProgress}
 use Rattle.pres_read.proofs.Ends.{sound_further, finish_fits}
 use Rattle.pres_read.proofs.PredTexts.{meant_read}
-use Rattle.cert_base.specs.declared.proof.LeafProof.{LeafProof}
-use Rattle.cert_json.specs.declared.bundle.Bundle.{Bundle}
-use Rattle.cert_json.specs.ProofFile.{IsPredText, IsLeafProofFile}
-use Rattle.cert_json.specs.BundleFile.{IsBundleFile}
+use Rattle.cert_json.specs.ProofFile.{IsPredText}
 
 -- ---- one text
 
@@ -87,22 +80,3 @@ module _ (names : List (List ℕ)) (one : 1 ≤ length names) (most : length nam
 
   pub text_over : (p : PredModel) (d : Data) → IsPredText names p d → IsOver p
   text_over p d is = subst (λ (r : Result PredModel ReadPred). IfOk r IsOver) (meant_read names is.0 p is.2) (read_fits is.0)
-
-  parts_over : (parts : List LeafProof) (ds : List Data) → AreItems (IsLeafProofFile names) parts ds
-      → (i : ℕ) (part : LeafProof) → slice_get parts i ≡ Some part → IsOver part.pred
-  parts_over [] [] are i part e = cc
-  parts_over [] (d ∷ ds) are i part e = absurd are
-  parts_over (p ∷ parts) [] are i part e = absurd are
-  parts_over (p ∷ parts) (d ∷ ds) are zero part e =
-      subst (λ (q : LeafProof). IsOver q.pred) (same_Some p part e) (text_over p.pred are.0.pred.0 are.0.pred.2)
-  parts_over (p ∷ parts) (d ∷ ds) are (suc i) part e = parts_over parts ds are.1 i part e
-
-pub file_net : (bundle : Bundle) (d : Data) → IsBundleFile bundle d → IsNet bundle.net
-file_net bundle d file = file.net.2.fits
-
--- the predicates of the leaves are over the net's variables, with coefficients for these alone
-pub file_preds : (bundle : Bundle) (d : Data) → IsBundleFile bundle d
-    → (i : ℕ) (part : LeafProof) → slice_get bundle.proof.leaves i ≡ Some part → (part.pred.variables ≡ length bundle.net.variables) × HasAtoms part.pred.variables part.pred.tree
-file_preds bundle d file =
-    let net = file_net bundle d file in
-    parts_over bundle.net.variables net.some_variable net.variables bundle.proof.leaves (listed file.proof.2.0) file.proof.2.2

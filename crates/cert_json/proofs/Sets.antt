@@ -2,9 +2,9 @@
 use Rattle.std.proofs.Common.{◌≡◌, ℕ, true, nat_lt, List, [], ◌∷◌, ◌++◌, map, Option, Some, refl, sym, ap, ◌∙◌}
 use Rattle.std.proofs.lemmas.Bool.{ltb-true, lt-ltb}
 use Rattle.std.proofs.lemmas.List.{map-append}
-use Rattle.json_shape.specs.Shapes.{last_of, comes_after}
-use Rattle.json_shape.proofs.Readers.{EachFrom}
-use Rattle.json_shape.proofs.Ascending.{last_of-push}
+use Rattle.base_json.specs.Shapes.{last_of, comes_after}
+use Rattle.base_json.proofs.Readers.{EachFrom}
+use Rattle.base_json.proofs.Ascending.{last_of-push}
 use Rattle.cert_base.specs.ProofLimits.{IsAscending}
 
 module _ {A : Type 0} (key : A → ℕ) where

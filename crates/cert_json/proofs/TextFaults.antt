@@ -1,9 +1,9 @@
 -- A text that is no predicate, and what reading it gives.
 use Rattle.std.proofs.Common.{◌≡◌, ℕ, List, Result, Err, ap}
-use Rattle.json_shape.specs.declared.fault.Why.TheVariants.{Pred}
-use Rattle.json_shape.specs.declared.fault.FormatFault.{FormatFault}
-use Rattle.json_shape.specs.Faults.{Says, FailsRead}
-use Rattle.json_shape.proofs.FaultLemmas.{Fails-said}
+use Rattle.base_json.specs.declared.fault.Why.TheVariants.{Pred}
+use Rattle.base_json.specs.declared.fault.FormatFault.{FormatFault}
+use Rattle.base_json.specs.Faults.{Says, FailsRead}
+use Rattle.base_json.proofs.FaultLemmas.{Fails-said}
 use Rattle.pres_ast.specs.PredModel.{PredModel}
 use Rattle.pres_read.specs.declared.fault.ReadPred.{ReadPred}
 use Rattle.cert_json.specs.Examined.{why_of, pred_or_why}

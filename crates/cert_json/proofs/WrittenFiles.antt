@@ -8,7 +8,7 @@ use Rattle.serde_json.specs.View.{view, items_of}
 use Rattle.serde_json.specs.declared.value.Value.{Value}
 use Rattle.pop_io.specs.declared.fault.NoMemory.{NoMemory}
 use Rattle.pop_io.specs.Names.{variable_name, AreNames}
-use Rattle.json_shape.specs.Parts.{IsNumber, IsInteger, IsList}
+use Rattle.base_json.specs.Parts.{IsNumber, IsInteger, IsList}
 use Rattle.pres_ast.specs.PredModel.{PredModel, IsPred}
 use Rattle.pres_read.specs.Canonical.{tree_text}
 use Rattle.pres_read.proofs.Again.{printed_read}

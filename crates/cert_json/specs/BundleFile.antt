@@ -1,7 +1,7 @@
 -- BundleFile: which JSON value is the file of which bundle. Members come in any order, and there may be others.
 use Rattle.std.specs.Prelude.{codes, length}
 use Rattle.serde_json.specs.Data.{Data}
-use Rattle.json_shape.specs.Parts.{HasMember}
+use Rattle.base_json.specs.Parts.{HasMember}
 use Rattle.net_json.specs.NetFile.{IsNetFile}
 use Rattle.cert_base.specs.ProofLimits.{IsProofWithin}
 use Rattle.cert_json.specs.declared.bundle.Bundle.{Bundle}

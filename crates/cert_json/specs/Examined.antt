@@ -2,13 +2,13 @@
 -- then its length, then item by item. The first broken rule is the fault.
 use Rattle.std.specs.Prelude.{ℕ, ◌-◌, List, [], map, codes, ℤ, Option, Some, None, Result, Ok, Err}
 use Rattle.serde_json.specs.Data.{Data}
-use Rattle.json_shape.specs.declared.fault.Why.TheVariants.{Name, Pred}
-use Rattle.json_shape.specs.declared.fault.PredWhy.{PredWhy}
-use Rattle.json_shape.specs.declared.fault.PredWhy.TheVariants as why
-use Rattle.json_shape.specs.Faults.{Fault, ◌>>=◌, broken}
-use Rattle.json_shape.specs.Paths.{item_path}
-use Rattle.json_shape.specs.Shapes.{object_at, member_by, number_at, integer_at, last_of, ascending_at, text_at}
-use Rattle.json_shape.specs.Shapes.{items_at, pair_at, word_at, one_after, two_after, each_at}
+use Rattle.base_json.specs.declared.fault.Why.TheVariants.{Name, Pred}
+use Rattle.base_json.specs.declared.fault.PredWhy.{PredWhy}
+use Rattle.base_json.specs.declared.fault.PredWhy.TheVariants as why
+use Rattle.base_json.specs.Faults.{Fault, ◌>>=◌, broken}
+use Rattle.base_json.specs.Paths.{item_path}
+use Rattle.base_json.specs.Shapes.{object_at, member_by, number_at, integer_at, last_of, ascending_at, text_at}
+use Rattle.base_json.specs.Shapes.{items_at, pair_at, word_at, one_after, two_after, each_at}
 use Rattle.pres_ast.specs.PredModel.{PredModel}
 use Rattle.pres_read.specs.declared.fault.ReadPred.{ReadPred}
 use Rattle.pres_read.specs.declared.fault.ReadPred.TheVariants.{Syntax, UnknownName, TooLarge, TooDeep, LongText}

@@ -2,6 +2,10 @@ pub mod ProofFile
 pub mod Kinds
 pub mod Examined
 pub mod Written
-pub mod Bundles
 pub mod BundleFile
 pub mod Calls
+pub mod PartFile
+pub mod StableFile
+pub mod StableExamined
+pub mod StableBundles
+pub mod StableCalls

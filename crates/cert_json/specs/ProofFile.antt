@@ -1,8 +1,8 @@
 -- ProofFile: which JSON value is the file of which proof. Members come in any order, and there may be others.
 use Rattle.std.specs.Prelude.{ℕ, List, codes}
 use Rattle.serde_json.specs.Data.{Data}
-use Rattle.json_shape.specs.Parts.{IsNumber, IsInteger, IsText, HasItems, IsOnly}
-use Rattle.json_shape.specs.Parts.{AreBoth, BeginsWith, HasMember, IsList}
+use Rattle.base_json.specs.Parts.{IsNumber, IsInteger, IsText, HasItems, IsOnly}
+use Rattle.base_json.specs.Parts.{AreBoth, BeginsWith, HasMember, IsList}
 use Rattle.pres_ast.specs.PredModel.{PredModel}
 use Rattle.pres_read.specs.PredText.{IsTextOf}
 use Rattle.cert_base.specs.declared.fact.Term.{Term}

@@ -2,14 +2,14 @@
 
 ghost use Rattle.std.specs.Prelude.{codes};
 ghost use Rattle.serde_json.specs.View.{view};
-ghost use Rattle.json_shape.specs.Faults.{GivesRead};
-ghost use Rattle.json_shape.specs.Paths.{path_text};
-ghost use Rattle.json_shape.specs.Shapes.{member_by};
+ghost use Rattle.base_json.specs.Faults.{GivesRead};
+ghost use Rattle.base_json.specs.Paths.{path_text};
+ghost use Rattle.base_json.specs.Shapes.{member_by};
 ghost use Rattle.cert_json.specs.Examined.{layer_moves_at, weights_at, layers_at};
 
 use crate::terms::{index_of, small_of};
+use base_json::{FormatFault, Path, ReadItem, each_in, object_of};
 use cert_base::{LAYER_LIMIT, Layer};
-use json_shape::{FormatFault, Path, ReadItem, each_in, object_of};
 use pop_io::List;
 use pop_net::{MOVE_LIMIT, STATE_LIMIT};
 use serde_json::Value;
@@ -110,7 +110,11 @@ impl ReadItem for Layers {
 }
 
 /// The member `layers`: at most `LAYER_LIMIT` layers.
-pub fn layers_of(alloc: Global, path: &Path<'_>, value: &Value) -> Result<List<Layer>, FormatFault>
+pub(crate) fn layers_of(
+    alloc: Global,
+    path: &Path<'_>,
+    value: &Value,
+) -> Result<List<Layer>, FormatFault>
     ensures { GivesRead (λ layers. layers) result
         (member_by (path_text path.now) (codes "layers") layers_at (view value.now)) }
 {

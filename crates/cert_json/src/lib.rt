@@ -1,21 +1,21 @@
-//! Bundle files and their proofs: the JSON value of a proof both ways, and the reading of a whole bundle.
-//! It stands on `cert_base`, `pres_read`, `pop_net` and `json_shape`.
-//! The layer above uses: `read_bundle` and `read_proof` are exact, faults included; `write_proof` is read back.
+//! Bundle files and their proofs, in which leaves may have goals: read, and without goals also written.
+//! It stands on `cert_base`, `pres_read`, `pop_net` and `base_json`.
+//! The layer above uses: `read_stable_bundle` and `read_proof` are exact, faults included; `write_proof` is read back.
 #![tactic(auto)]
 
 mod bundle;
+mod goal;
 mod kind;
 mod layers;
 mod node;
+mod part;
 mod read;
+mod stable;
 mod terms;
 mod write;
 mod write_node;
 
-pub use bundle::{Bundle, net_of, read_bundle};
-pub use json_shape::{FormatFault, PredWhy, Why};
-pub use layers::layers_of;
-pub use node::nodes_of;
-pub use read::{leaf_proof_of, pred_of, pred_why, read_proof};
-pub use terms::states_of;
+pub use bundle::Bundle;
+pub use read::{pred_why, read_proof};
+pub use stable::{StableBundle, read_stable_bundle};
 pub use write::write_proof;

@@ -2,19 +2,19 @@
 
 ghost use Rattle.std.specs.Prelude.{map};
 ghost use Rattle.serde_json.specs.View.{view};
-ghost use Rattle.json_shape.specs.Faults.{GivesRead};
-ghost use Rattle.json_shape.specs.Paths.{path_text};
-ghost use Rattle.json_shape.specs.Shapes.{member_by};
+ghost use Rattle.base_json.specs.Faults.{GivesRead};
+ghost use Rattle.base_json.specs.Paths.{path_text};
+ghost use Rattle.base_json.specs.Shapes.{member_by};
 ghost use Rattle.cert_base.specs.declared.node.Node.TheVariants.{Residue};
 ghost use Rattle.cert_json.specs.Examined.{index_at, state_at, modulus_at, small_at, terms_at, row_terms_at};
 ghost use Rattle.cert_json.specs.Examined.{set_states_at, only_by, with_two, split_by, after_word, nodes_at};
 
 use crate::kind::NodeKind;
 use crate::terms::{index_of, modulus_of, row_terms_of, small_of, state_of, states_of, terms_of};
-use cert_base::{NODE_LIMIT, Node, Row, Term};
-use json_shape::{
+use base_json::{
     FormatFault, Path, ReadItem, Why, both_items, broken, each_in, items_of, only_item, word_of,
 };
+use cert_base::{NODE_LIMIT, Node, Row, Term};
 use pop_io::List;
 use serde_json::Value;
 use std::alloc::Global;
@@ -126,7 +126,7 @@ impl ReadItem for Nodes {
 }
 
 /// A member by its name: at most `NODE_LIMIT` nodes.
-pub fn nodes_of(
+pub(crate) fn nodes_of(
     alloc: Global,
     path: &Path<'_>,
     member: &str,

@@ -3,19 +3,19 @@
 ghost use Rattle.std.specs.Prelude.{◌≡◌, ◌≤◌, codes, length, IfOk};
 ghost use Rattle.serde_json.specs.View.{view};
 ghost use Rattle.pop_io.specs.Names.{variable_name, AreNames};
-ghost use Rattle.json_shape.specs.Faults.{GivesRead};
-ghost use Rattle.json_shape.specs.Paths.{path_text};
-ghost use Rattle.json_shape.specs.Shapes.{member_by};
+ghost use Rattle.base_json.specs.Faults.{GivesRead};
+ghost use Rattle.base_json.specs.Paths.{path_text};
+ghost use Rattle.base_json.specs.Shapes.{member_by};
 ghost use Rattle.cert_base.specs.declared.proof.Proof.{Proof};
 ghost use Rattle.cert_json.specs.Calls.{IsReadProof};
 ghost use Rattle.cert_json.specs.Examined.{pred_at, why_of, leaf_proof_at, leaf_proofs_at, proof_at};
 
 use crate::layers::layers_of;
 use crate::node::nodes_of;
-use cert_base::{LeafProof, Proof};
-use json_shape::{
+use base_json::{
     FormatFault, Path, PredWhy, ReadItem, Why, broken, each_in, member_of, object_of, text_of,
 };
+use cert_base::{LeafProof, Proof};
 use pop_io::{Failure, List, Text, VARIABLE_LIMIT};
 use pop_net::Net;
 use pres_ast::Pred;
@@ -59,7 +59,7 @@ fn pred_from(
 }
 
 /// The member `pred`: a predicate over these names.
-pub fn pred_of(
+pub(crate) fn pred_of(
     alloc: Global,
     path: &Path<'_>,
     names: &List<Text>,
@@ -78,7 +78,7 @@ pub fn pred_of(
 
 /// The proof of a leaf over these names.
 #[tactic(auto, unfolding(crate::specs::Examined::leaf_proof_at))]
-pub fn leaf_proof_of(
+pub(crate) fn leaf_proof_of(
     alloc: Global,
     path: &Path<'_>,
     names: &List<Text>,

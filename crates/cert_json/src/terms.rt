@@ -3,16 +3,16 @@
 ghost use Rattle.std.specs.Prelude.{◌≡◌, ◌-◌};
 ghost use Rattle.serde_json.specs.View.{view};
 ghost use Rattle.cert_base.specs.declared.limits.TheConstants.{INDEX_COUNT};
-ghost use Rattle.json_shape.specs.Faults.{GivesRead};
-ghost use Rattle.json_shape.specs.Paths.{path_text};
-ghost use Rattle.json_shape.specs.Shapes.{ascending_at, last_of};
+ghost use Rattle.base_json.specs.Faults.{GivesRead};
+ghost use Rattle.base_json.specs.Paths.{path_text};
+ghost use Rattle.base_json.specs.Shapes.{ascending_at, last_of};
 ghost use Rattle.cert_json.specs.Examined.{index_at, state_at, modulus_at, small_at};
 ghost use Rattle.cert_json.specs.Examined.{terms_at, numbers_of, row_terms_at, set_states_at};
 
-use cert_base::{SIZE_LIMIT, TERM_LIMIT, Term};
-use json_shape::{
+use base_json::{
     FormatFault, Path, ReadItem, ascending_of, each_of, integer_of, number_of, pair_of,
 };
+use cert_base::{SIZE_LIMIT, TERM_LIMIT, Term};
 use pop_io::List;
 use pop_net::STATE_LIMIT;
 use pres_ast::MODULUS_LIMIT;
@@ -186,7 +186,11 @@ impl ReadItem for States {
 }
 
 /// At most `STATE_LIMIT` numbers of states that ascend.
-pub fn states_of(alloc: Global, path: &Path<'_>, value: &Value) -> Result<List<u16>, FormatFault>
+pub(crate) fn states_of(
+    alloc: Global,
+    path: &Path<'_>,
+    value: &Value,
+) -> Result<List<u16>, FormatFault>
     ensures { GivesRead (λ qs. qs) result (set_states_at (path_text path.now) (view value.now)) }
 {
     each_of(alloc, path, 0, STATE_LIMIT, &States, value)

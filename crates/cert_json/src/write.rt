@@ -15,8 +15,8 @@ ghost use Rattle.cert_json.specs.Written.{integers_data, nodes_data, layer_data}
 ghost use Rattle.cert_json.specs.Written.{leaf_proof_members, leaf_proof_data, proof_data};
 
 use crate::write_node::nodes_value;
+use base_json::put_made;
 use cert_base::{Layer, LeafProof, Proof};
-use json_shape::put_made;
 use pop_io::{List, NoMemory, Text};
 use pres_ast::Pred;
 use pres_read::print_pred;

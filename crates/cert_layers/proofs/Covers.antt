@@ -9,16 +9,16 @@ use Rattle.cert_layers.specs.Waking.{brings_state, brings_two_states}
 use Rattle.pop_leaf.proofs.Silent.{one_self}
 
 -- a state is z and counts once, or is another and doesn't count
-abbrev One : ℕ → ℕ → Type 0
+abbrev pub One : ℕ → ℕ → Type 0
 One x z = ((x ≡ z) × (one_at x z ≡ 1)) ⊎ ((x ≢ z) × (one_at x z ≡ 0))
 
-one : (x z : ℕ) → One x z
+pub one : (x z : ℕ) → One x z
 one x z = elim (eqb_tells x z) [ inl h ↦ inl (h.1, rw h.0 refl) | inr h ↦ inr (h.1, rw h.0 refl) ]
 
-at_equal : (x z : ℕ) → x ≡ z → one_at x z ≡ 1
+pub at_equal : (x z : ℕ) → x ≡ z → one_at x z ≡ 1
 at_equal x z e = rw (eq-eqb x z e) refl
 
-at_other : (x z : ℕ) → x ≢ z → one_at x z ≡ 0
+pub at_other : (x z : ℕ) → x ≢ z → one_at x z ≡ 0
 at_other x z ne = elim (one x z) [ inl h ↦ absurd (ne h.0) | inr h ↦ h.1 ]
 
 -- x and y are the pair a and b

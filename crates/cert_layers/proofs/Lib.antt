@@ -9,6 +9,7 @@ pub mod Firsts
 pub mod Asleep
 pub mod Covers
 pub mod Woken
+pub mod Tameness
 pub mod Valid
 pub mod Failing
 pub mod Bounds

@@ -80,10 +80,10 @@ unlisted-yes leaf layers layer_of_move n p e at =
     let some : is_some (layer_of layer_of_move n) ≡ true = ap is_some (p.placed n f.0 f.1 f.2 f.3) in
     false≢true (sym (not-true (is_some (layer_of layer_of_move n)) m.3) ∙ some)
 
-is_lower-yes : (w : List ℤ) (t : Move) → is_lower_after w t ≡ true → IsLower w t
+pub is_lower-yes : (w : List ℤ) (t : Move) → is_lower_after w t ≡ true → IsLower w t
 is_lower-yes w t e = lt_z_yes (T_from_true _ e)
 
-is_lower-no : (w : List ℤ) (t : Move) → is_lower_after w t ≡ false → IsLower w t → ⊥
+pub is_lower-no : (w : List ℤ) (t : Move) → is_lower_after w t ≡ false → IsLower w t → ⊥
 is_lower-no w t e lower =
     let high = lt_z_no {a = weight_at w t.r +ℤ weight_at w t.s} {b = weight_at w t.p +ℤ weight_at w t.q} (T_from_true _ (ap not e)) in omega (arith, ints, high, lower)
 

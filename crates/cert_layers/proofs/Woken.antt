@@ -20,16 +20,16 @@ use Rattle.cert_layers.proofs.NotLower.{in_layer, in_place, some_move-true}
 use Rattle.pop_leaf.proofs.Within.{move_small}
 
 -- a move of an earlier layer that takes x and y
-abbrev EarlyMove : LeafModel → List Layer → ℕ → ℕ → ℕ → Type 0
+abbrev pub EarlyMove : LeafModel → List Layer → ℕ → ℕ → ℕ → Type 0
 EarlyMove leaf layers i x y = (k : ℕ) × (u : Move) × (k < i) × IsInLayer leaf layers k u × IsPair x y u
 
 module _ (leaf : LeafModel) (layers : List Layer) (layer_of_move : List (Option ℕ)) (table : List ℕ) (formed : IsLeaf leaf) (p : AreMoveLayers leaf layers layer_of_move) (h : IsWakingTable leaf layer_of_move (length leaf.moves) table) (i : ℕ) (few : i ≤ NO_LAYER) where
-  early_move : (x y : ℕ) → x < STATE_LIMIT → y < STATE_LIMIT → is_early table i x y ≡ true → EarlyMove leaf layers i x y
+  pub early_move : (x y : ℕ) → x < STATE_LIMIT → y < STATE_LIMIT → is_early table i x y ≡ true → EarlyMove leaf layers i x y
   early_move x y xs ys e =
       let f = h.sound i x y few xs ys (ltb-true (first_at table x y) i e) in
       (f.layer, f.taken, f.before, in_layer leaf layers layer_of_move f.number f.layer f.taken p f.move_is f.non_silent f.layer_is, f.takes)
 
-  early_test : (x y k : ℕ) (u : Move) → k < i → IsInLayer leaf layers k u → x < STATE_LIMIT → y < STATE_LIMIT → IsPair x y u → is_early table i x y ≡ true
+  pub early_test : (x y k : ℕ) (u : Move) → k < i → IsInLayer leaf layers k u → x < STATE_LIMIT → y < STATE_LIMIT → IsPair x y u → is_early table i x y ≡ true
   early_test x y k u before at xs ys pair =
       lt-ltb (first_at table x y) i (h.complete i x y few xs ys (record {
         number = at.number;
@@ -45,10 +45,10 @@ module _ (leaf : LeafModel) (layers : List Layer) (layer_of_move : List (Option 
 
   module _ (t u : Move) (ts : IsMoveBelow STATE_LIMIT t) where
     -- u' takes two states that were present before t, where u takes m and o
-    abbrev Was : ℕ → ℕ → Move → Type 0
+    abbrev pub Was : ℕ → ℕ → Move → Type 0
     Was m o u' = (z : ℕ) → pre u' z ≤ pre t z + (times_in_pair m o z - post t z)
 
-    asleep_with : (m o : ℕ) → o < STATE_LIMIT → brings_state t m ≡ true → wakes_with_state (is_early table i) t m o ≡ false → (k : ℕ) × (u' : Move) × (k < i) × IsInLayer leaf layers k u' × Was m o u'
+    pub asleep_with : (m o : ℕ) → o < STATE_LIMIT → brings_state t m ≡ true → wakes_with_state (is_early table i) t m o ≡ false → (k : ℕ) × (u' : Move) × (k < i) × IsInLayer leaf layers k u' × Was m o u'
     asleep_with m o os b e = by_pair (or_cases (is_early table i t.p t.q) (not (brings_two_states t m o) && (is_early table i t.p o || is_early table i t.q o)) (not-false _ e))
       where
         there : (x y : ℕ) → x < STATE_LIMIT → y < STATE_LIMIT → is_early table i x y ≡ true → ((z : ℕ) → times_in_pair x y z ≤ pre t z + (times_in_pair m o z - post t z)) → (k : ℕ) × (u' : Move) × (k < i) × IsInLayer leaf layers k u' × Was m o u'
@@ -66,7 +66,7 @@ module _ (leaf : LeafModel) (layers : List Layer) (layer_of_move : List (Option 
             let parts = and_parts (not (brings_two_states t m o)) (is_early table i t.p o || is_early table i t.q o) rest in
             by_other (not-true (brings_two_states t m o) parts.0) (or_cases (is_early table i t.p o) (is_early table i t.q o) parts.1)
 
-    awake_with : (m o : ℕ) → o < STATE_LIMIT → brings_state t m ≡ true → wakes_with_state (is_early table i) t m o ≡ true → (k : ℕ) (u' : Move) → k < i → IsInLayer leaf layers k u' → Was m o u' → ⊥
+    pub awake_with : (m o : ℕ) → o < STATE_LIMIT → brings_state t m ≡ true → wakes_with_state (is_early table i) t m o ≡ true → (k : ℕ) (u' : Move) → k < i → IsInLayer leaf layers k u' → Was m o u' → ⊥
     awake_with m o os b e k u' before at was = by_both (cases_Bool (brings_two_states t m o))
       where
         parts : (is_early table i t.p t.q ≡ false) × ((not (brings_two_states t m o) && (is_early table i t.p o || is_early table i t.q o)) ≡ false)

@@ -34,6 +34,10 @@ is_unlisted_move leaf layer_of_move n =
 abbrev pub is_lower_after : List ℤ → Move → Bool
 is_lower_after w t = int_lt (weight_at w t.r +ℤ weight_at w t.s) (weight_at w t.p +ℤ weight_at w t.q)
 
+-- whether the states that a move brings weigh more than those it takes
+abbrev pub is_higher_after : List ℤ → Move → Bool
+is_higher_after w t = int_lt (weight_at w t.p +ℤ weight_at w t.q) (weight_at w t.r +ℤ weight_at w t.s)
+
 -- whether a non-silent move has number n, stands in a layer, and doesn't lower its weights
 abbrev pub not_lower : LeafModel → List Layer → List (Option ℕ) → ℕ → Bool
 not_lower leaf layers layer_of_move n =

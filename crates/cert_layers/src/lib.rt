@@ -9,8 +9,12 @@ mod fault;
 mod lower;
 mod move_layers;
 mod pairs;
+mod tame;
 mod waking;
+mod work;
 
 pub use bound::bound_of;
 pub use check::check_layers;
 pub use fault::LayerWhy;
+pub use tame::is_tame;
+pub use work::TAME_WORK_LIMIT;

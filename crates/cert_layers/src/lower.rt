@@ -6,7 +6,7 @@ ghost use Rattle.pop_leaf.specs.FirstFault.{first_below};
 ghost use Rattle.pop_leaf.specs.LeafModel.{IsLeaf};
 ghost use Rattle.cert_layers.specs.LayerFaults.{IsWeight};
 ghost use Rattle.cert_layers.specs.MoveLayers.{AreMoveLayers};
-ghost use Rattle.cert_layers.specs.Search.{is_unlisted_move, is_lower_after, not_lower};
+ghost use Rattle.cert_layers.specs.Search.{is_unlisted_move, is_lower_after, is_higher_after, not_lower};
 
 use cert_base::Layer;
 use pop_net::{Leaf, Move};
@@ -57,7 +57,7 @@ fn fails_to_lower(leaf: &Leaf, layers: &[Layer], layer_of_move: &[Option<u16>], 
 }
 
 /// Whether the states that a move brings weigh less than those it takes.
-fn is_lower(weights: &[i64], taken: Move) -> bool
+pub(crate) fn is_lower(weights: &[i64], taken: Move) -> bool
     requires small { All IsWeight weights.now }
     requires p_in { taken.p < length weights.now }
     requires q_in { taken.q < length weights.now }
@@ -68,8 +68,20 @@ fn is_lower(weights: &[i64], taken: Move) -> bool
     pair_weight(weights, taken.r, taken.s) < pair_weight(weights, taken.p, taken.q)
 }
 
+/// Whether the states that a move brings weigh more than those it takes.
+pub(crate) fn is_higher(weights: &[i64], taken: Move) -> bool
+    requires small { All IsWeight weights.now }
+    requires p_in { taken.p < length weights.now }
+    requires q_in { taken.q < length weights.now }
+    requires r_in { taken.r < length weights.now }
+    requires s_in { taken.s < length weights.now }
+    ensures { result ≡ is_higher_after weights.now taken }
+{
+    pair_weight(weights, taken.p, taken.q) < pair_weight(weights, taken.r, taken.s)
+}
+
 /// The weights of two states together.
-fn pair_weight(weights: &[i64], first: u16, second: u16) -> i64
+pub(crate) fn pair_weight(weights: &[i64], first: u16, second: u16) -> i64
     requires small { All IsWeight weights.now }
     requires first_in { first < length weights.now }
     requires second_in { second < length weights.now }

@@ -40,7 +40,16 @@ impl PairTable {
         requires y_in { y < STATE_LIMIT }
         ensures { result ≡ is_early self.now layer x y }
     {
-        self.layers.as_slice()[x as usize * STATE_LIMIT + y as usize] < layer
+        self.first(x, y) < layer
+    }
+
+    /// The first layer with a non-silent move that takes two states.
+    pub(crate) fn first(&self, x: u16, y: u16) -> u16
+        requires x_in { x < STATE_LIMIT }
+        requires y_in { y < STATE_LIMIT }
+        ensures { result ≡ first_at self.now x y }
+    {
+        self.layers.as_slice()[x as usize * STATE_LIMIT + y as usize]
     }
 }
 

@@ -155,7 +155,13 @@ fn wakes(table: &PairTable, layer: u16, taken: Move, x: u16, y: u16) -> bool
 }
 
 /// The same if the move brings the first state.
-fn wakes_with(table: &PairTable, layer: u16, taken: Move, brought: u16, other: u16) -> bool
+pub(crate) fn wakes_with(
+    table: &PairTable,
+    layer: u16,
+    taken: Move,
+    brought: u16,
+    other: u16,
+) -> bool
     requires below { IsMoveBelow STATE_LIMIT taken }
     requires other_in { other < STATE_LIMIT }
     ensures { result ≡ wakes_with_state (is_early table.now layer) taken brought other }

@@ -14,7 +14,7 @@ use Rattle.cert_linear.specs.declared.sum.Sum.{Sum}
 use Rattle.cert_linear.specs.Conditions.{AreAscending}
 use Rattle.cert_linear.specs.Sums.{coefficient_of, IsSum, IsPlus, IsSame, IsSumWithin}
 use Rattle.cert_base.proofs.WeightedSums.{multiplied, coefficient-append, coefficient-times}
-use Rattle.list_laws.proofs.Numbers.{size-add}
+use Rattle.base_laws.proofs.Numbers.{size-add}
 use Rattle.cert_linear.specs.declared.sum.TheConstants.{PRODUCT_LIMIT, ROOM_LIMIT, ENTER_LIMIT, REST_LIMIT, ENTRY_LIMIT}
 
 -- what a term brings to the coefficient of a variable

@@ -18,8 +18,8 @@ use Rattle.cert_linear.specs.declared.sum.Sum.{Sum}
 use Rattle.cert_linear.specs.Sums.{blank, entry_at, rest_at, coefficient_of, AreTidy, AreRests, IsTidy, IsSum, AreSum, IsListedIfPositive, HasAllPositive}
 use Rattle.pop_leaf.proofs.Reactions.{and_left, and_right}
 use Rattle.cert_linear.proofs.RowValues.{each_coefficient-at}
-use Rattle.list_laws.proofs.Lists.{take_one_more}
-use Rattle.list_laws.proofs.Numbers.{size-add, Tells}
+use Rattle.base_laws.proofs.Lists.{take_one_more}
+use Rattle.base_laws.proofs.Numbers.{size-add, Tells}
 use Rattle.cert_linear.specs.declared.sum.TheConstants.{PRODUCT_LIMIT, ENTER_LIMIT, REST_LIMIT, ENTRY_LIMIT}
 
 pub push-at : (entries : List Entry) (q : ℕ) → entry_at (entries ++ blank ∷ []) q ≡ entry_at entries q

@@ -17,7 +17,7 @@ use Rattle.cert_base.specs.Valuation.{Valuation, row_value, MeetsFact}
 use Rattle.cert_base.specs.ClosingTests.{row_of, times, add_rows, scaled, sum_of, coefficient_in, each_coefficient, may_have, all_named, may_add_modulo, is_zero_row, denies, closes_by_residue}
 use Rattle.cert_base.proofs.Integers.{add-mul, mul-mul-pos, divides-zero}
 use Rattle.cert_linear.proofs.RowValues.{row_value-add_rows, row_value-times, total, terms_value-total, each_coefficient-at, end_of}
-use Rattle.list_laws.proofs.Numbers.{size-neg}
+use Rattle.base_laws.proofs.Numbers.{size-neg}
 
 -- z is a whole number times m
 abbrev pub Multiple : ℕ → ℤ → Type 0

@@ -19,7 +19,7 @@ use Rattle.cert_linear.specs.declared.tally.Tally.{Tally}
 use Rattle.cert_linear.specs.Sums.{IsSum, AreSum, SumsUp}
 use Rattle.cert_linear.specs.Conditions.{AreMultipliers}
 use Rattle.cert_linear.specs.Kept.{IsKept, Keeps, leads}
-use Rattle.list_laws.proofs.Lists.{all_filtered, at_front}
+use Rattle.base_laws.proofs.Lists.{all_filtered, at_front}
 use Rattle.cert_base.proofs.WeightedSums.{coefficient-append}
 
 -- the sum of one term more, in one of two parts

@@ -3,7 +3,6 @@
 ghost use Rattle.std.specs.Prelude.{◌≡◌, ◌≤◌, length};
 
 use crate::closing::residue;
-use crate::sum::Sum;
 use crate::tally::Tally;
 use cert_base::{FACT_LIMIT, Fact, Term};
 use pop_io::{List, NoMemory};
@@ -111,25 +110,8 @@ impl Trail {
         self.facts.truncate(len as usize);
     }
 
-    /// Whether the facts are refuted as by `linear_closes`. It sums up in memory of its own.
-    pub fn linear(&self, terms: &List<Term>) -> Result<bool, NoMemory>
-        requires { IsCombination self.now terms.now }
-        ensures { IfOk result (TellsRefuted self.now (closes_by_sum self.now terms.now)) }
-    {
-        Tally::new(self.alloc).closes(self.alloc, self.facts.as_slice(), 0, terms.as_slice())
-    }
-
-    /// Whether the facts are refuted as by `residue_closes`. It sums up in memory of its own.
-    pub fn residue(&self, modulus: u32, terms: &List<Term>) -> Result<bool, NoMemory>
-        requires combination { IsCombination self.now terms.now }
-        requires modulus { 0 < modulus }
-        ensures { IfOk result (TellsRefuted self.now (closes_by_residue self.now modulus terms.now)) }
-    {
-        let sum = &mut Sum::new(self.alloc);
-        residue(sum, self.facts.as_slice(), modulus, terms.as_slice())
-    }
-
-    /// `linear` in the trail's memory, where the sum of the leading terms is kept.
+    /// Whether the facts are refuted as by `linear_closes`, in the trail's memory, where the sum of the leading terms is
+    /// kept.
     pub fn is_refuted_by_sum(&mut self, terms: &List<Term>) -> Result<bool, NoMemory>
         requires { IsCombination self.old terms.now }
         ensures answer { IfOk result (TellsRefuted self.old (closes_by_sum self.old terms.now)) }
@@ -143,7 +125,7 @@ impl Trail {
         )
     }
 
-    /// `residue` in the trail's memory.
+    /// Whether the facts are refuted as by `residue_closes`, in the trail's memory.
     pub fn is_refuted_by_residue(
         &mut self,
         modulus: u32,

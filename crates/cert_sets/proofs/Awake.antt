@@ -16,10 +16,10 @@ use Rattle.cert_layers.specs.Waking.{IsPair, brings_state, brings_two_states, wa
 use Rattle.cert_layers.proofs.Asleep.{wakes-brought, wakes-other, right_false}
 use Rattle.cert_layers.proofs.Covers.{Like, times-like, within_two, within_three, left_none, left_one, left_both}
 use Rattle.pop_leaf.specs.Hushed.{hushed}
-use Rattle.pop_hushed.specs.Laws.{IsKeptMove}
-use Rattle.pop_hushed.proofs.Kept.{kept_listed, listed_kept}
-use Rattle.pop_hushed.proofs.Moves.{hushed_move, kept_move}
-use Rattle.goal_sets.specs.Stays.{IsRestWithin, WasPossible}
+use Rattle.pop_leaf.specs.Laws.{IsKeptMove}
+use Rattle.pop_leaf.proofs.Kept.{kept_listed, listed_kept}
+use Rattle.pop_leaf.proofs.HushedMoves.{hushed_move, kept_move}
+use Rattle.theory_sets.specs.Stays.{IsRestWithin, WasPossible}
 use Rattle.cert_sets.specs.SetTests.{is_other_within, is_rest_within}
 
 -- a move that isn't silent takes its states, in one order or the other

@@ -3,7 +3,7 @@ use Rattle.std.proofs.Common.{◌≡◌, ◌⊎◌, inl, inr, ℕ, ◌+◌, ◌<
 use Rattle.std.specs.Prelude.{Option, Some, None, is_some, slice_get, All, Result, Ok, Err, OnOk, MatchBool}
 use Rattle.std.proofs.lemmas.Bool.{cases_eq, false≢true}
 use Rattle.std.proofs.lemmas.Option.{slice_get-get_or}
-use Rattle.list_laws.proofs.Options.{same_value}
+use Rattle.base_laws.proofs.Options.{same_value}
 use Rattle.pop_io.specs.declared.failure.Failure.{Failure}
 use Rattle.pop_io.specs.declared.failure.Failure.TheVariants.{Fault, NoMemory}
 use Rattle.pop_io.specs.Failures.{IfFault, OnlyMemory}
@@ -13,7 +13,7 @@ use Rattle.cert_layers.specs.LayerFaults.{Each}
 use Rattle.pop_leaf.specs.Hushed.{hushed}
 use Rattle.cert_sets.specs.declared.fault.SetFault.{SetFault}
 use Rattle.cert_sets.specs.declared.fault.SetFault.TheVariants.{Output, Leaves, Wakes}
-use Rattle.goal_sets.specs.Stays.{escapes, SleepIn, IsGuardedAt, IsGuarded}
+use Rattle.theory_sets.specs.Stays.{escapes, SleepIn, IsGuardedAt, IsGuarded}
 use Rattle.cert_sets.specs.SetFaults.{HasOutput, IsGoodSet, AreGoodSets, IsLeft, IsBadBy, AreBadBy, ChecksSets}
 use Rattle.cert_sets.specs.SetSearch.{FindsLeft, fault_of_woken}
 use Rattle.cert_sets.specs.SetTests.{FindsWoken}

@@ -11,9 +11,9 @@ use Rattle.cert_layers.specs.Search.{some_move}
 use Rattle.cert_layers.proofs.Firsts.{first_below-Some}
 use Rattle.cert_layers.proofs.NotLower.{some_move-true, some_move-false}
 use Rattle.pop_leaf.specs.Hushed.{hushed}
-use Rattle.pop_hushed.proofs.Kept.{listed_cases}
-use Rattle.goal_sets.specs.Stays.{leads_out, IsGuardedAt}
-use Rattle.goal_sets.proofs.Escapes.{escape_is, is_escape}
+use Rattle.pop_leaf.proofs.Kept.{listed_cases}
+use Rattle.theory_sets.specs.Stays.{leads_out, IsGuardedAt}
+use Rattle.theory_sets.proofs.Escapes.{escape_is, is_escape}
 use Rattle.cert_sets.specs.SetTests.{is_silent_move, is_unguarded}
 use Rattle.cert_sets.proofs.Woken.{other_silent, silent_other}
 

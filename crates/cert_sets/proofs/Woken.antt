@@ -16,9 +16,9 @@ use Rattle.cert_layers.proofs.Asleep.{asleep_pair, right_false}
 use Rattle.cert_layers.proofs.Firsts.{first_below-Some}
 use Rattle.cert_layers.proofs.NotLower.{some_move-true, some_move-false}
 use Rattle.pop_leaf.specs.Hushed.{is_kept, hushed}
-use Rattle.pop_hushed.proofs.Kept.{kept_listed}
-use Rattle.pop_hushed.proofs.Moves.{hush_silent, hushed_move, kept_move, other_move}
-use Rattle.goal_sets.specs.Stays.{takes_within, WasPossible, SleepsFor, SleepIn}
+use Rattle.pop_leaf.proofs.Kept.{kept_listed}
+use Rattle.pop_leaf.proofs.HushedMoves.{hush_silent, hushed_move, kept_move, other_move}
+use Rattle.theory_sets.specs.Stays.{takes_within, WasPossible, SleepsFor, SleepIn}
 use Rattle.cert_sets.specs.SetTests.{is_rest_within, wakes_within, wakes_awake, is_silent_move, wakes_one, FindsWoken}
 use Rattle.cert_sets.proofs.Awake.{asleep, awake, rest_is, rest_isnt, met_by}
 

@@ -7,7 +7,7 @@ use Rattle.cert_base.specs.declared.limits.TheConstants.{SET_LIMIT}
 use Rattle.cert_layers.specs.LayerFaults.{Each, IsFirstFailing}
 use Rattle.cert_sets.specs.declared.fault.SetFault.{SetFault}
 use Rattle.cert_sets.specs.declared.fault.SetFault.TheVariants.{Output, Leaves, Wakes}
-use Rattle.goal_sets.specs.Stays.{escapes, SleepsFor, SleepIn, IsGuardedAt, Stays}
+use Rattle.theory_sets.specs.Stays.{escapes, SleepsFor, SleepIn, IsGuardedAt, Stays}
 
 -- there is such a state, and its output is the value
 abbrev pub HasOutput : LeafModel → Bool → ℕ → Type 0
@@ -57,7 +57,7 @@ pub record AreBadBy (leaf : LeafModel) (moves : List ℕ) (value : Bool) (sets :
 abbrev pub AreSetsWithin : List (List ℕ) → Type 0
 AreSetsWithin sets = length sets ≤ SET_LIMIT
 
--- what `check_sets` says: each set has the value as its output and stays; or this is the first that doesn't, and why
+-- what `checked_sets` says: each set has the value as its output and stays; or this is the first that doesn't, and why
 pub record ChecksSets {T : Type 0} (leaf : LeafModel) (moves : List ℕ) (value : Bool) (sets : List (List ℕ))
     (result : Result T (Failure SetFault)) : Type 0 where
   pub good : OnOk result (AreGoodSets leaf moves value sets)

@@ -3,7 +3,7 @@ use Rattle.std.specs.Prelude.{ℕ, Bool, List, Option, Some, None, All}
 use Rattle.pop_leaf.specs.LeafModel.{LeafModel}
 use Rattle.cert_sets.specs.declared.fault.SetFault.{SetFault}
 use Rattle.cert_sets.specs.declared.fault.SetFault.TheVariants.{Wakes}
-use Rattle.goal_sets.specs.Stays.{IsGuarded}
+use Rattle.theory_sets.specs.Stays.{IsGuarded}
 use Rattle.cert_sets.specs.SetFaults.{HasOutput, IsFirstOther, IsLeft}
 
 -- the first state of the set that doesn't have the value as its output, if there is one

@@ -5,7 +5,7 @@ use Rattle.pop_leaf.specs.LeafModel.{LeafModel, silent_move}
 use Rattle.cert_base.specs.FactsAndCases.{is_in, can_meet_in}
 use Rattle.cert_layers.specs.Search.{some_move}
 use Rattle.cert_layers.specs.Waking.{brings_state, brings_two_states, wakes_states, FindsFirst}
-use Rattle.goal_sets.specs.Stays.{takes_within, leads_out}
+use Rattle.theory_sets.specs.Stays.{takes_within, leads_out}
 
 -- whether o, which is taken beside a state that t brings, is brought too or in the set
 abbrev pub is_other_within : List ℕ → Move → ℕ → ℕ → Bool

@@ -4,7 +4,7 @@ ghost use Rattle.std.specs.Prelude.{◌≡◌, ◌<◌, length, slice_get, IfOk}
 ghost use Rattle.pop_leaf.specs.FirstFault.{first_below};
 ghost use Rattle.pop_leaf.specs.LeafModel.{IsLeaf, IsMoveBelow};
 ghost use Rattle.cert_layers.specs.Search.{some_move};
-ghost use Rattle.goal_sets.specs.Stays.{takes_within, leads_out, escapes};
+ghost use Rattle.theory_sets.specs.Stays.{takes_within, leads_out, escapes};
 ghost use Rattle.cert_sets.specs.SetTests.{is_silent_move, is_unguarded};
 
 use cert_traps::StateSet;

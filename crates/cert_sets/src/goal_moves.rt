@@ -6,9 +6,8 @@ ghost use Rattle.cert_sets.specs.Layered.{layered};
 
 use crate::listed::listed_moves;
 use cert_base::Layer;
-use pop_hushed::hushed_leaf;
 use pop_io::{List, NoMemory};
-use pop_leaf::Leaf;
+use pop_leaf::{Leaf, hushed_leaf};
 use std::alloc::Global;
 
 /// A leaf, layers of some of its moves, and the leaf that keeps these moves alone.

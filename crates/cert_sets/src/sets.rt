@@ -7,7 +7,7 @@ ghost use Rattle.cert_sets.specs.SetFaults.{AreSetsWithin, ChecksSets, HasOutput
 ghost use Rattle.cert_sets.specs.SetFaults.{AreGoodSets, AreBadBy};
 
 use crate::fault::SetFault;
-use crate::goal_moves::{GoalMoves, kept_leaf};
+use crate::goal_moves::GoalMoves;
 use crate::outputs::first_other;
 use crate::stay::{is_settled, left_by};
 use cert_base::Layer;
@@ -17,26 +17,6 @@ use pop_leaf::Leaf;
 use std::alloc::Global;
 
 /// Whether all states of each set have the value as their output, and each set stays, with the moves of these layers.
-pub fn check_sets(
-    alloc: Global,
-    leaf: &Leaf,
-    layers: &List<Layer>,
-    value: bool,
-    sets: &List<List<u16>>,
-) -> Result<(), Failure<SetFault>>
-    requires { AreSetsWithin sets.now }
-    ensures { ChecksSets leaf.now (moves_of_layers layers.now) value sets.now result }
-{
-    let kept = kept_leaf(alloc, leaf, layers)?;
-    let given = GoalMoves {
-        leaf,
-        layers,
-        kept: &kept,
-    };
-    checked_sets(alloc, &given, value, sets)
-}
-
-/// The same, with the leaf that keeps these moves alone.
 pub fn checked_sets(
     alloc: Global,
     given: &GoalMoves<'_>,

@@ -4,7 +4,7 @@ ghost use Rattle.std.specs.Prelude.{◌≡◌, ◌<◌, ◌&&◌, not, length, s
 ghost use Rattle.pop_leaf.specs.FirstFault.{first_below};
 ghost use Rattle.pop_leaf.specs.LeafModel.{IsLeaf, IsMoveBelow, silent_move};
 ghost use Rattle.cert_layers.specs.Waking.{FindsFirst};
-ghost use Rattle.goal_sets.specs.Stays.{takes_within};
+ghost use Rattle.theory_sets.specs.Stays.{takes_within};
 ghost use Rattle.cert_sets.specs.SetTests.{is_silent_move, wakes_awake, wakes_one, FindsWoken};
 
 use crate::escape::{is_between, is_silent_at};

@@ -4,7 +4,7 @@ ghost use Rattle.std.specs.Prelude.{◌≡◌, IfOk, MatchBool};
 ghost use Rattle.pop_leaf.specs.LeafModel.{IsLeaf};
 ghost use Rattle.pop_leaf.specs.Hushed.{hushed};
 ghost use Rattle.cert_base.specs.ValidLayers.{moves_of_layers};
-ghost use Rattle.goal_sets.specs.Stays.{escapes, SleepIn};
+ghost use Rattle.theory_sets.specs.Stays.{escapes, SleepIn};
 ghost use Rattle.cert_sets.specs.SetTests.{FindsWoken};
 ghost use Rattle.cert_sets.specs.SetSearch.{FindsLeft, fault_of_woken};
 
@@ -13,9 +13,8 @@ use crate::fault::SetFault;
 use crate::goal_moves::GoalMoves;
 use crate::sleep::first_woken;
 use cert_traps::StateSet;
-use pop_hushed::hushed_leaf;
 use pop_io::NoMemory;
-use pop_leaf::Leaf;
+use pop_leaf::{Leaf, hushed_leaf};
 use std::alloc::Global;
 
 /// Whether no move outside these that takes two states of the set wakes one of them there.

@@ -10,7 +10,7 @@ use Rattle.pop_leaf.specs.InputCrowd.{leaf_input_crowd}
 use Rattle.pop_leaf.specs.Reachable.{Leads}
 use Rattle.pop_leaf.specs.Step.{Follows, LeafMove, LeafChange, LeafStep}
 use Rattle.pop_leaf.proofs.Quiet.{All-slice_get}
-use Rattle.pop_hushed.proofs.Crowds.{none_terminal}
+use Rattle.pop_leaf.proofs.Crowds.{none_terminal}
 use Rattle.cert_base.specs.declared.fact.Fact.{Fact}
 use Rattle.cert_base.specs.declared.fact.Fact.TheVariants.{Ge, Eq}
 use Rattle.cert_base.specs.Rows.{single_row, input_row, state_variable}
@@ -29,7 +29,7 @@ use Rattle.cert_traps.proofs.PresentEnds.{one_times, occurs_met}
 use Rattle.cert_traps.proofs.TakenMoves.{sum_zero, others_untaken, untaken_met}
 use Rattle.cert_traps.proofs.TrapEnds.{NoneIn, not_started, not_helped}
 use Rattle.cert_traps.proofs.SiphonEnds.{NoneInside, takes_by, both_outside, x_outside, y_outside, nobody_after, none_at_start, second_met, outside_met, empty_met}
-use Rattle.list_laws.proofs.Lists.{has_first, has_later, has_map, all_filtered}
+use Rattle.base_laws.proofs.Lists.{has_first, has_later, has_map, all_filtered}
 
 -- two agents can take a move that enters the set
 record CanEnter (leaf : LeafModel) (set crowd : List ℕ) : Type 0 where

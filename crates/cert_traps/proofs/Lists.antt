@@ -15,8 +15,8 @@ use Rattle.cert_traps.specs.Partners.{ArePartners}
 use Rattle.pop_leaf.specs.declared.limits.TheConstants.{STATE_LIMIT}
 use Rattle.pop_leaf.specs.declared.leaf.Move.{Move}
 use Rattle.pop_leaf.specs.LeafModel.{LeafModel}
-use Rattle.list_laws.proofs.Lists.{take_one_more}
-use Rattle.list_laws.proofs.Ranges.{range_next}
+use Rattle.base_laws.proofs.Lists.{take_one_more}
+use Rattle.base_laws.proofs.Ranges.{range_next}
 use Rattle.cert_base.proofs.Indicators.{places_from-one}
 
 -- one more item of a list that is mapped

@@ -22,7 +22,7 @@ use Rattle.cert_base.proofs.Numbers.{number_in}
 use Rattle.cert_base.proofs.Openings.{in_first, in_rest}
 use Rattle.cert_base.specs.Ends.{MeetsOne}
 use Rattle.cert_base.proofs.ListTests.{list_any-contains}
-use Rattle.list_laws.proofs.Lists.{slice_get-set_same, slice_get-set_other, all_filtered}
+use Rattle.base_laws.proofs.Lists.{slice_get-set_same, slice_get-set_other, all_filtered}
 use Rattle.std.proofs.lemmas.Option.{same_Some}
 use Rattle.pop_leaf.proofs.Silent.{stays-silent, same_pair_cases}
 

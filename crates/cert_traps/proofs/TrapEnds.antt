@@ -25,7 +25,7 @@ use Rattle.cert_base.proofs.Indicators.{sum_if, row_value-behind, sum_if-none, a
 use Rattle.cert_base.specs.Ends.{MeetsOne}
 use Rattle.cert_base.proofs.Openings.{in_first, in_rest}
 use Rattle.cert_traps.proofs.TakenMoves.{sum_zero, taken_fails, others_untaken, single_none, untaken_met}
-use Rattle.list_laws.proofs.Lists.{slice_get-set_same, slice_get-set_other, at_front, at_end}
+use Rattle.base_laws.proofs.Lists.{slice_get-set_same, slice_get-set_other, at_front, at_end}
 
 -- no agent is in a state of the set
 abbrev pub NoneIn : List ℕ → List ℕ → Type 0

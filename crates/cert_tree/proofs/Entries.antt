@@ -10,10 +10,10 @@ use Rattle.cert_base.specs.FactsAndCases.{before_entry, cases_of_entry}
 use Rattle.cert_linear.specs.Conditions.{IsOrdered}
 use Rattle.cert_tree.specs.declared.room.Room.{Room}
 use Rattle.cert_tree.specs.declared.walk.Walk.{Walk}
-use Rattle.tree_faults.specs.Refusals.{cases_under, all_fit}
+use Rattle.cert_tree.specs.Refusals.{cases_under, all_fit}
 use Rattle.cert_tree.specs.Rooms.{waiting_in, depth_in, IsSoundIn, Opens}
 use Rattle.cert_tree.specs.Walks.{waiting, HasEntered}
-use Rattle.tree_faults.proofs.Ordered.{before_ordered, entries_ordered}
+use Rattle.cert_tree.proofs.Ordered.{before_ordered, entries_ordered}
 use Rattle.cert_tree.proofs.Passages.{opened_waits, below_fit}
 
 -- facts that leave room for some case are few enough

@@ -7,3 +7,13 @@ pub mod Visits
 pub mod Starts
 pub mod ClosedEnds
 pub mod Trees
+pub mod Passing
+pub mod Formats
+pub mod ClosedWalk
+pub mod ShortCases
+pub mod Passed
+pub mod Ordered
+pub mod Refused
+pub mod FewFacts
+pub mod Verdicts
+pub mod Inside

@@ -10,11 +10,11 @@ use Rattle.cert_base.specs.declared.fact.Fact.{Fact}
 use Rattle.cert_base.specs.declared.node.Node.{Node}
 use Rattle.cert_linear.specs.Conditions.{IsOrdered}
 use Rattle.cert_tree.specs.declared.room.Room.{Room}
-use Rattle.tree_faults.specs.Format.{IsWithinFormat}
-use Rattle.tree_faults.specs.Refusals.{Waiting, cases_at, cases_under, all_fit}
+use Rattle.cert_tree.specs.Format.{IsWithinFormat}
+use Rattle.cert_tree.specs.Refusals.{Waiting, cases_at, cases_under, all_fit}
 use Rattle.cert_tree.specs.Frames.{Stacked, stacked, IsFit}
 use Rattle.cert_tree.specs.Rooms.{placed, waiting_in, depth_in, dead_in, IsSoundIn, Opens, HasPassed}
-use Rattle.tree_faults.proofs.Ordered.{CasesOrdered, all_of, cases_ordered, first_case}
+use Rattle.cert_tree.proofs.Ordered.{CasesOrdered, all_of, cases_ordered, first_case}
 
 -- cases on a stack, as cases of the tree
 pub all_placed : (above n : ℕ) (is_still : Bool) (facts : List Fact) (cases : List (List Fact)) → map (placed above is_still) (map (λ own. (n, facts ++ own)) cases) ≡ cases_under (above + n) is_still facts cases

@@ -3,7 +3,7 @@ use Rattle.std.proofs.Common.{◌≡◌, suc, ◌+◌, List, [], ◌∷◌, ◌+
 use Rattle.std.specs.Prelude.{All}
 use Rattle.cert_tree.specs.declared.room.Room.{Room}
 use Rattle.cert_tree.specs.declared.walk.Walk.{Walk}
-use Rattle.tree_faults.specs.Refusals.{waits}
+use Rattle.cert_tree.specs.Refusals.{waits}
 use Rattle.cert_tree.specs.Frames.{Stacked, stacked, IsFit, StandsAtFirst}
 use Rattle.cert_tree.specs.Rooms.{placed, waiting_in, IsSoundIn}
 use Rattle.cert_tree.specs.Walks.{waiting_rooms, waiting_outside, AreSound, StandsAt}

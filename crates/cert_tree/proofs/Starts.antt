@@ -4,8 +4,8 @@ use Rattle.pres_ast.specs.PredModel.{PredModel}
 use Rattle.pop_leaf.specs.LeafModel.{LeafModel, IsLeaf}
 use Rattle.cert_base.specs.FactsAndCases.{base_list, goal_list}
 use Rattle.cert_tree.specs.Frames.{IsFit}
-use Rattle.tree_faults.proofs.FewFacts.{base_few, goal_few}
-use Rattle.tree_faults.proofs.Ordered.{base_ordered, goal_ordered, all_of}
+use Rattle.cert_tree.proofs.FewFacts.{base_few, goal_few}
+use Rattle.cert_tree.proofs.Ordered.{base_ordered, goal_ordered, all_of}
 
 pub base_fit : (leaf : LeafModel) (p : PredModel) (value : Bool) → IsLeaf leaf → IsFit (0, base_list leaf p value)
 base_fit leaf p value is =

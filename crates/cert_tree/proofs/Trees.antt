@@ -10,13 +10,13 @@ use Rattle.cert_base.specs.FactsAndCases.{base_list, goal_list}
 use Rattle.cert_base.specs.Closes.{ClosesFor}
 use Rattle.cert_base.specs.Ends.{HaveSamePlaces, HoldAtWrongEnds}
 use Rattle.cert_base.specs.GoalEnds.{HoldAtOutsideEnds}
-use Rattle.tree_faults.specs.declared.fault.TreeFault.{TreeFault}
-use Rattle.tree_faults.specs.Refusals.{ChecksTree, ChecksGoalTree}
-use Rattle.tree_faults.specs.NoEnds.{NoneMeets}
+use Rattle.cert_tree.specs.declared.fault.TreeFault.{TreeFault}
+use Rattle.cert_tree.specs.Refusals.{ChecksTree, ChecksGoalTree}
+use Rattle.cert_tree.specs.NoEnds.{NoneMeets}
 use Rattle.cert_tree.specs.Walks.{WalksNodes}
 use Rattle.cert_tree.proofs.ClosedEnds.{AreFormed, base_formed, goal_formed, closes_none}
-use Rattle.tree_faults.proofs.Verdicts.{none_right}
-use Rattle.tree_faults.proofs.Inside.{none_inside}
+use Rattle.cert_tree.proofs.Verdicts.{none_right}
+use Rattle.cert_tree.proofs.Inside.{none_inside}
 
 only_when : {A B : Type 0} (result : Result (Unit {0}) (Failure TreeFault)) → (A → B) → OnOk result A → OnOk result B
 only_when (Ok u) f h = f h

@@ -4,18 +4,18 @@ use Rattle.std.specs.Prelude.{Some, None, if◌then◌else◌, Result, Ok, Err, 
 use Rattle.pop_leaf.specs.LeafModel.{LeafModel}
 use Rattle.cert_base.specs.declared.node.Node.{Node}
 use Rattle.pop_io.specs.declared.failure.Failure.{Failure}
-use Rattle.tree_faults.specs.declared.fault.TreeWhy.{TreeWhy}
-use Rattle.tree_faults.specs.declared.fault.TreeWhy.TheVariants.{TooManyFacts}
+use Rattle.cert_tree.specs.declared.fault.TreeWhy.{TreeWhy}
+use Rattle.cert_tree.specs.declared.fault.TreeWhy.TheVariants.{TooManyFacts}
 use Rattle.cert_tree.specs.declared.walk.Walk.{Walk}
-use Rattle.tree_faults.specs.Refusals.{Waiting, dead_at, cases_at, cases_under, entries, facts_before, all_fit, first_from}
+use Rattle.cert_tree.specs.Refusals.{Waiting, dead_at, cases_at, cases_under, entries, facts_before, all_fit, first_from}
 use Rattle.cert_tree.specs.Rooms.{waiting_in, depth_in, HasPassed}
-use Rattle.tree_faults.specs.Halts.{HaltsBy}
+use Rattle.cert_tree.specs.Halts.{HaltsBy}
 use Rattle.cert_tree.specs.Walks.{waiting_outside, waiting, StandsAt, HasEntered, IsRefusedBefore}
-use Rattle.tree_faults.specs.Halts.{GoesOn, HaltsAt}
-use Rattle.tree_faults.proofs.Passing.{unrefused}
-use Rattle.tree_faults.proofs.ClosedWalk.{passed_on}
+use Rattle.cert_tree.specs.Halts.{GoesOn, HaltsAt}
+use Rattle.cert_tree.proofs.Passing.{unrefused}
+use Rattle.cert_tree.proofs.ClosedWalk.{passed_on}
 use Rattle.cert_tree.proofs.Passages.{passed_waits}
-use Rattle.tree_faults.proofs.Refused.{refused_at, refused_before}
+use Rattle.cert_tree.proofs.Refused.{refused_at, refused_before}
 
 -- the walk stands at a case, and its room has passed the node
 module _ (leaf dead : LeafModel) (before : List Waiting) (node : Node) (walk mid : Walk) (at : StandsAt before walk) (passed : HasPassed leaf dead walk.room node mid.room) (outside : waiting_outside mid ≡ waiting_outside walk) where

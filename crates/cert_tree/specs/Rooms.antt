@@ -4,12 +4,12 @@ use Rattle.pop_leaf.specs.LeafModel.{LeafModel}
 use Rattle.cert_base.specs.declared.limits.TheConstants.{PATH_LIMIT}
 use Rattle.cert_base.specs.declared.fact.Fact.{Fact}
 use Rattle.cert_base.specs.declared.node.Node.{Node}
-use Rattle.tree_faults.specs.declared.fault.TreeWhy.{TreeWhy}
+use Rattle.cert_tree.specs.declared.fault.TreeWhy.{TreeWhy}
 use Rattle.cert_tree.specs.declared.room.Room.{Room}
 use Rattle.pop_io.specs.declared.failure.Failure.{Failure}
 use Rattle.cert_tree.specs.Frames.{Stacked, stacked, IsNested, IsFit}
-use Rattle.tree_faults.specs.Refusals.{Waiting, waits, dead_at, cases_at, all_fit, own_refusal, refusal}
-use Rattle.tree_faults.specs.Halts.{HaltsBy}
+use Rattle.cert_tree.specs.Refusals.{Waiting, waits, dead_at, cases_at, all_fit, own_refusal, refusal}
+use Rattle.cert_tree.specs.Halts.{HaltsBy}
 
 -- a case of a stack that stands under so many nodes more
 abbrev pub placed : ℕ → Bool → Stacked → Waiting

@@ -6,17 +6,17 @@ use Rattle.cert_base.specs.declared.fact.Fact.{Fact}
 use Rattle.cert_base.specs.declared.node.Node.{Node}
 use Rattle.cert_base.specs.Closes.{ClosesFor}
 use Rattle.cert_linear.specs.Conditions.{IsOrdered}
-use Rattle.tree_faults.specs.declared.fault.TreeWhy.{TreeWhy}
-use Rattle.tree_faults.specs.declared.fault.TreeWhy.TheVariants.{TooManyFacts}
-use Rattle.tree_faults.specs.declared.fault.TreeFault.{TreeFault}
+use Rattle.cert_tree.specs.declared.fault.TreeWhy.{TreeWhy}
+use Rattle.cert_tree.specs.declared.fault.TreeWhy.TheVariants.{TooManyFacts}
+use Rattle.cert_tree.specs.declared.fault.TreeFault.{TreeFault}
 use Rattle.cert_tree.specs.declared.room.Room.{Room}
 use Rattle.cert_tree.specs.declared.walk.Walk.{Walk}
 use Rattle.pop_io.specs.declared.failure.Failure.{Failure}
 use Rattle.pop_io.specs.Failures.{IfFault, OnlyMemory}
-use Rattle.tree_faults.specs.Refusals.{Waiting, waits, cases_under, all_fit, facts_before, entries}
-use Rattle.tree_faults.specs.Refusals.{IsFaultFor}
+use Rattle.cert_tree.specs.Refusals.{Waiting, waits, cases_under, all_fit, facts_before, entries}
+use Rattle.cert_tree.specs.Refusals.{IsFaultFor}
 use Rattle.cert_tree.specs.Rooms.{waiting_in, depth_in, IsSoundIn}
-use Rattle.tree_faults.specs.Halts.{HaltsBy}
+use Rattle.cert_tree.specs.Halts.{HaltsBy}
 
 -- all cases that wait in these rooms
 abbrev pub waiting_rooms : List Room → List Waiting

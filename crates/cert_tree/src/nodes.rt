@@ -9,17 +9,17 @@ ghost use Rattle.cert_base.specs.declared.node.Node.TheVariants.{Open, First};
 ghost use Rattle.cert_base.specs.Closes.{name_below};
 ghost use Rattle.cert_base.specs.Ends.{HaveSamePlaces};
 ghost use Rattle.cert_linear.specs.Conditions.{IsOrdered, AreMultipliers};
-ghost use Rattle.tree_faults.specs.Format.{IsWithinFormat};
-ghost use Rattle.tree_faults.specs.Refusals.{own_refusal};
-ghost use Rattle.tree_faults.specs.Halts.{IsPassed, HaltsBy};
+ghost use Rattle.cert_tree.specs.Format.{IsWithinFormat};
+ghost use Rattle.cert_tree.specs.Refusals.{own_refusal};
+ghost use Rattle.cert_tree.specs.Halts.{IsPassed, HaltsBy};
 
+use crate::fault::TreeWhy;
 use cert_base::{Fact, Node, Row, SIZE_LIMIT, Term, count_variables, open_cases, split_cases};
 use cert_linear::Trail;
 use cert_traps::{first_cases, present_cases, siphon_cases, trap_cases, twin_case};
 use pop_io::{Failure, List};
 use pop_leaf::Leaf;
 use std::alloc::Global;
-use tree_faults::TreeWhy;
 
 /// The cases of a node that speak of the end, in order; none at a node that refutes the facts. `dead` is the leaf that
 /// has no step there.

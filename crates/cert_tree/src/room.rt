@@ -5,16 +5,17 @@ ghost use Rattle.cert_base.specs.declared.fact.Fact.{Fact};
 ghost use Rattle.cert_base.specs.Closes.{still};
 ghost use Rattle.cert_base.specs.Ends.{HaveSamePlaces};
 ghost use Rattle.cert_linear.specs.Conditions.{IsOrdered};
-ghost use Rattle.tree_faults.specs.Format.{IsWithinFormat};
+ghost use Rattle.cert_tree.specs.Format.{IsWithinFormat};
 ghost use Rattle.cert_tree.specs.Rooms.{Opens, depth_in, HasPassed, IsRefusedIn};
 
+use crate::fault::TreeWhy;
 use crate::nodes::node_cases;
+use crate::size::has_room;
 use crate::stack::Stack;
 use cert_base::{FACT_LIMIT, Fact, Node, PATH_LIMIT};
 use pop_io::{Failure, List, NoMemory};
 use pop_leaf::Leaf;
 use std::alloc::Global;
-use tree_faults::{TreeWhy, has_room};
 
 /// Cases that speak of the same crowd.
 #[derive(Drop)]

@@ -3,20 +3,19 @@
 ghost use Rattle.std.specs.Prelude.{◌≡◌, ◌≤◌, length, All};
 ghost use Rattle.cert_base.specs.declared.limits.TheConstants.{NODE_LIMIT, SET_LIMIT};
 ghost use Rattle.cert_base.specs.Ends.{HaveSamePlaces};
-ghost use Rattle.tree_faults.specs.Format.{IsWithinFormat};
-ghost use Rattle.tree_faults.specs.Refusals.{AreNodesOf, ChecksTree, ChecksGoalTree};
+ghost use Rattle.cert_tree.specs.Format.{IsWithinFormat};
+ghost use Rattle.cert_tree.specs.Refusals.{AreNodesOf, ChecksTree, ChecksGoalTree};
 ghost use Rattle.cert_tree.specs.Frames.{IsFit};
 ghost use Rattle.cert_tree.specs.Walks.{WalksNodes};
-ghost use Rattle.tree_faults.specs.Halts.{fault_at};
+ghost use Rattle.cert_tree.specs.Halts.{fault_at};
 
+use crate::fault::{TreeFault, TreeWhy};
 use crate::walk::Walk;
 use cert_base::{Fact, Node, base_facts, goal_facts};
-use pop_hushed::hushed_leaf;
 use pop_io::{Failure, List};
-use pop_leaf::Leaf;
+use pop_leaf::{Leaf, hushed_leaf};
 use pres_ast::Pred;
 use std::alloc::Global;
-use tree_faults::{TreeFault, TreeWhy};
 
 /// Whether the nodes, a tree in preorder, close the facts that hold at each end whose input gives the predicate this
 /// value and where some agent has another output (Blondin, Esparza, Jaax, Meyer 2017).

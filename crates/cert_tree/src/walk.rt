@@ -5,22 +5,23 @@ ghost use Rattle.cert_base.specs.declared.node.Node.TheVariants.{First};
 ghost use Rattle.cert_base.specs.Closes.{still};
 ghost use Rattle.cert_base.specs.Ends.{HaveSamePlaces};
 ghost use Rattle.cert_linear.specs.Conditions.{IsOrdered};
-ghost use Rattle.tree_faults.specs.Format.{IsWithinFormat};
-ghost use Rattle.tree_faults.specs.Refusals.{waits};
+ghost use Rattle.cert_tree.specs.Format.{IsWithinFormat};
+ghost use Rattle.cert_tree.specs.Refusals.{waits};
 ghost use Rattle.cert_tree.specs.Frames.{IsFit};
 ghost use Rattle.cert_tree.specs.Rooms.{waiting_in, depth_in, IsSoundIn};
 ghost use Rattle.cert_tree.specs.Walks.{waiting, waiting_outside, AreSound, IsSound, FindsPlace, HasEntered};
 ghost use Rattle.cert_tree.specs.Walks.{IsRefusedBefore};
-ghost use Rattle.tree_faults.specs.Halts.{GoesOn, HaltsAt};
+ghost use Rattle.cert_tree.specs.Halts.{GoesOn, HaltsAt};
 
+use crate::fault::TreeWhy;
 use crate::room::Room;
+use crate::size::has_room;
 use cert_base::{Fact, Node, PATH_LIMIT};
 use cert_traps::{entry_cases, facts_before_entry};
 use pop_io::{Failure, List, NoMemory};
 use pop_leaf::Leaf;
 use std::alloc::Global;
 use std::mem;
-use tree_faults::{TreeWhy, has_room};
 
 /// The cases that wait: first those of one room, then those of the rooms that it was entered from, the latest last.
 #[derive(Drop)]

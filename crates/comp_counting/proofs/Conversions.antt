@@ -9,7 +9,7 @@ use Rattle.pop_leaf.specs.declared.leaf.Move.{Move}
 use Rattle.pop_leaf.specs.LeafModel.{silent_move, same_pair}
 use Rattle.comp_trees.proofs.Single.{differ-by}
 use Rattle.comp_counting.specs.FullState.{conversion_move}
-use Rattle.list_laws.proofs.Ranges.{all_range}
+use Rattle.base_laws.proofs.Ranges.{all_range}
 
 pub all_conversions : (k : ℕ) (P : Move → Type 0) → ((q : ℕ) → q ≤ k → P (conversion_move k q)) → All P (map (conversion_move k) (range_with_len 0 (k + 1)))
 all_conversions k P f = All-map P (conversion_move k) (range_with_len 0 (k + 1)) (all_range (λ q. P (conversion_move k q)) 0 (k + 1) (λ q l m. f q (omega arith)))

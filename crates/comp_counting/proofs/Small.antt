@@ -3,7 +3,7 @@ use Rattle.std.proofs.Common.{ℕ, zero, suc, ◌≤◌, List, length, refl, ari
 use Rattle.std.specs.Prelude.{ℤ, pos, negsuc, nat_abs}
 use Rattle.pres_ast.specs.PredTree.{LessThan}
 use Rattle.pres_ast.specs.PredModel.{IsPred}
-use Rattle.comp_bits.proofs.Bits.{power-le}
+use Rattle.comp_trees.proofs.Bits.{power-le}
 use Rattle.comp_counting.specs.declared.limits.TheConstants.{POWER_LIMIT}
 use Rattle.comp_counting.specs.FlockAtoms.{enough_for, IsOffset}
 

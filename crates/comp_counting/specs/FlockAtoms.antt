@@ -7,7 +7,7 @@ use Rattle.std.specs.List.{range_with_len, list_all}
 use Rattle.std.specs.Ordering.{int_eq}
 use Rattle.pop_io.specs.declared.names.TheConstants.{VARIABLE_LIMIT}
 use Rattle.pres_ast.specs.PredModel.{IsAtomSum, PredModel}
-use Rattle.comp_bits.specs.Bits.{power_in}
+use Rattle.comp_trees.specs.Bits.{power_in}
 use Rattle.comp_counting.specs.declared.limits.TheConstants.{POWER_LIMIT}
 use Rattle.pres_ast.specs.PredTree.{LessThan}
 

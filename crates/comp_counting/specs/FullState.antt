@@ -4,7 +4,7 @@ use Rattle.std.specs.Prelude.{ℕ, ◌+◌, Bool, true, false, not, ◌==◌, na
 use Rattle.std.specs.Prelude.{replicate, ℤ, pos, negsuc, Option, Some, None, nat_abs, ◌∷◌}
 use Rattle.std.specs.List.{range_with_len}
 use Rattle.pop_leaf.specs.declared.leaf.Move.{Move}
-use Rattle.comp_bits.specs.Bits.{power_in}
+use Rattle.comp_trees.specs.Bits.{power_in}
 use Rattle.comp_counting.specs.declared.limits.TheConstants.{POWER_LIMIT}
 use Rattle.cert_base.specs.declared.layer.Layer.{Layer}
 use Rattle.cert_base.specs.declared.node.Node.{Node}

@@ -2,12 +2,12 @@
 
 ghost use Rattle.std.specs.Prelude.{◌≡◌, ◌≤◌, map, IfOk};
 ghost use Rattle.std.specs.List.{range_with_len};
-ghost use Rattle.comp_bits.specs.Bits.{power_in};
+ghost use Rattle.comp_trees.specs.Bits.{power_in};
 ghost use Rattle.comp_counting.specs.declared.limits.TheConstants.{POWER_LIMIT, PLACE_LIMIT};
 ghost use Rattle.comp_counting.specs.FullState.{flock_start, place_of as place, flock_state_count, flock_output};
 
 use crate::limits::POWER_LIMIT as GREATEST_POWER;
-use comp_bits::power_of;
+use comp_trees::power_of;
 use pop_io::NoMemory;
 use std::alloc::Global;
 

@@ -1,5 +1,5 @@
 //! What the leaves of flocks share: which atoms they are for, and the nodes that rest on the full state. It stands on
-//! `comp_trees`, and on `comp_bits` for powers of two. The layers above use: `flock_power`, `offset_power` and
+//! `comp_trees`. The layers above use: `flock_power`, `offset_power` and
 //! `are_counted` recognize the atoms; `counting_layers`, `full_tree` and `converted_node` give exactly the layer and
 //! the nodes.
 //!

@@ -11,7 +11,7 @@ ghost use Rattle.comp_counting.specs.FlockAtoms.{offset_power as offset_power_of
 
 use crate::limits::POWER_LIMIT;
 use crate::meaning::{enough_for, says_enough};
-use comp_bits::{power_of, two_to};
+use comp_trees::{power_of, two_to};
 
 /// The bound of the flock atom with this power.
 pub fn bound_of_power(k: u32) -> i64

@@ -1,61 +1,64 @@
 -- What an atom with an offset says, and how many agents its helpers stand for.
-use Rattle.std.proofs.Common.{◌≡◌, ◌∙◌, subst, ℕ, zero, suc, ◌+◌, ◌-◌, ◌^◌, ◌%◌, ◌<◌, ◌≤◌, Bool, true, false, List, [], ◌∷◌, ◌++◌, length, get_or, refl, ap, sym, arith}
-use Rattle.std.specs.Prelude.{ℤ, pos, negsuc, neg_ℤ, ◌-ℤ◌, if◌then◌else◌, All, filter, replicate, nat_abs}
+use Rattle.std.proofs.Common.{◌≡◌, ◌∙◌, subst, ℕ, zero, suc, ◌+◌, ◌-◌, ◌^◌, ◌%◌, ◌<◌, ◌≤◌, Bool, true, false, List, [], ◌∷◌, ◌++◌, length, refl, ap, sym, arith}
+use Rattle.std.specs.Prelude.{ℤ, pos, negsuc, neg_ℤ, ◌-ℤ◌, if◌then◌else◌, All, filter, replicate}
 use Rattle.std.specs.List.{range_with_len, list_all}
 use Rattle.std.proofs.lemmas.Int.{ints}
 use Rattle.std.proofs.lemmas.Bool.{lt-leb}
 use Rattle.std.proofs.lemmas.List.{length-append, append-nil}
-use Rattle.std.proofs.lemmas.List.Elements.{All-head, All-tail, All-append, All-filter, All-replicate, filter-append}
+use Rattle.std.proofs.lemmas.List.Elements.{All-append, All-filter, All-replicate, filter-append}
 use Rattle.std.proofs.lemmas.List.FromFn.{length-range_with_len}
 use Rattle.std.proofs.lemmas.List.Sums.{length-filter, count_by-le-length}
-use Rattle.pop_leaf.specs.LeafModel.{IsLeaf}
 use Rattle.cert_base.specs.WeightedSums.{total}
-use Rattle.list_laws.proofs.Ranges.{all_range, range_next}
+use Rattle.base_laws.proofs.Ranges.{all_range, range_next}
 use Rattle.comp_trees.proofs.HelperSums.{total-append}
-use Rattle.comp_bits.specs.Bits.{has_bit}
-use Rattle.comp_bits.proofs.Bits.{more_bits, no_bits, all_bits, some_power}
+use Rattle.comp_trees.specs.Bits.{has_bit}
+use Rattle.comp_trees.proofs.Bits.{more_bits, no_bits, all_bits, some_power}
 use Rattle.comp_counting.specs.FlockAtoms.{is_counted, flock_bound, says_enough, enough_for, IsFlock, IsOffset}
-use Rattle.comp_flock.specs.FlockLeaf.{size_in, bit_states, offset_helpers, offset_helper_count, all_offset_helpers, flock_leaf_with, flock_leaf_of, offset_leaf_of}
-use Rattle.comp_flock.specs.FlockProof.{full_size}
-use Rattle.comp_flock.proofs.Powers.{size-at}
-use Rattle.comp_flock.proofs.Starts.{flock-are, flock-sum}
+use Rattle.comp_flock.specs.CountLeaf.{worth_in}
+use Rattle.comp_flock.specs.FlockLeaf.{power_worths, bit_states, offset_helpers, offset_helper_count, all_offset_helpers, flock_leaf_with, flock_leaf_of, offset_leaf_of}
+use Rattle.comp_flock.proofs.Powers.{worth-power}
+use Rattle.comp_flock.proofs.Flocks.{flock-are, flock-sum}
 
 -- ---- helpers
-
-abbrev size : ℕ → ℤ
-size q = pos (size_in q)
 
 abbrev bit_of : ℕ → ℕ → Bool
 bit_of n q = has_bit n (q - 1)
 
-bits-total : (n m : ℕ) → total size (bit_states n m) ≡ pos (n % 2 ^ m)
-bits-total n zero = ap pos (sym (no_bits n))
-bits-total n (suc m) =
-    let split = ap (λ qs. total size (filter (bit_of n) qs)) (range_next 1 m) ∙ ap (total size) (filter-append (bit_of n) (range_with_len 1 m) ((1 + m) ∷ [])) ∙ total-append size (bit_states n m) (filter (bit_of n) ((1 + m) ∷ [])) in
-    let rest = bits-total n m in
-    let last : total size (filter (bit_of n) ((1 + m) ∷ [])) ≡ pos (if has_bit n m then 2 ^ m else 0) = one (has_bit n (1 + m - 1)) ∙ ap (λ i. pos (if has_bit n i then 2 ^ m else 0)) (let e : 1 + m - 1 ≡ m = omega arith in e) in
-    let bits = more_bits n m in
-    let same = ap (λ j. n % 2 ^ j) (let e : m + 1 ≡ suc m = omega arith in e) in
-    omega (arith, ints, split, rest, last, bits, same)
-  where
-    one : (b : Bool) → total size (if b then ((1 + m) ∷ []) else []) ≡ pos (if b then 2 ^ m else 0)
-    one true = let at = size-at (1 + m) m (omega arith) in omega (arith, ints, at)
-    one false = refl
+module _ (k : ℕ) where
+  abbrev size : ℕ → ℤ
+  size q = pos (worth_in (power_worths k) q)
 
-spare-none : (n : ℕ) → total size (replicate n 0) ≡ pos 0
-spare-none zero = refl
-spare-none (suc n) = let none : size 0 ≡ pos 0 = refl in let rest = spare-none n in omega (arith, ints, none, rest)
+  size-at : (q i : ℕ) → i ≤ k → q ≡ i + 1 → worth_in (power_worths k) q ≡ 2 ^ i
+  size-at q i l e = ap (worth_in (power_worths k)) e ∙ worth-power k i l
+
+  bits-total : (n m : ℕ) → m ≤ k → total size (bit_states n m) ≡ pos (n % 2 ^ m)
+  bits-total n zero l = ap pos (sym (no_bits n))
+  bits-total n (suc m) l =
+      let split = ap (λ qs. total size (filter (bit_of n) qs)) (range_next 1 m) ∙ ap (total size) (filter-append (bit_of n) (range_with_len 1 m) ((1 + m) ∷ [])) ∙ total-append size (bit_states n m) (filter (bit_of n) ((1 + m) ∷ [])) in
+      let rest = bits-total n m (omega (arith, l)) in
+      let last : total size (filter (bit_of n) ((1 + m) ∷ [])) ≡ pos (if has_bit n m then 2 ^ m else 0) = one (has_bit n (1 + m - 1)) ∙ ap (λ i. pos (if has_bit n i then 2 ^ m else 0)) (let e : 1 + m - 1 ≡ m = omega arith in e) in
+      let bits = more_bits n m in
+      let same = ap (λ j. n % 2 ^ j) (let e : m + 1 ≡ suc m = omega arith in e) in
+      omega (arith, ints, split, rest, last, bits, same)
+    where
+      one : (b : Bool) → total size (if b then ((1 + m) ∷ []) else []) ≡ pos (if b then 2 ^ m else 0)
+      one true = let at = size-at (1 + m) m (omega (arith, l)) (omega arith) in omega (arith, ints, at)
+      one false = refl
+
+  spare-none : (n : ℕ) → total size (replicate n 0) ≡ pos 0
+  spare-none zero = refl
+  spare-none (suc n) = let none : size 0 ≡ pos 0 = refl in let rest = spare-none n in omega (arith, ints, none, rest)
 
 -- the helpers stand for 2^k - c agents
-pub helpers-total : (bound : ℤ) (k spare : ℕ) → enough_for bound ≤ 2 ^ k → total size (all_offset_helpers bound k spare) ≡ (pos (2 ^ k) -ℤ pos (enough_for bound))
+pub helpers-total : (bound : ℤ) (k spare : ℕ) → enough_for bound ≤ 2 ^ k → total (λ q. pos (worth_in (power_worths k) q)) (all_offset_helpers bound k spare) ≡ (pos (2 ^ k) -ℤ pos (enough_for bound))
 helpers-total bound k spare l =
     let n = 2 ^ k - enough_for bound in
     let some = enough-some bound in
     let below : n < 2 ^ k = omega (arith, l, some, some_power k) in
-    let both = total-append size (offset_helpers bound k) (replicate spare 0) in
-    let bits = bits-total n k in
+    let both = total-append (size k) (offset_helpers bound k) (replicate spare 0) in
+    let bits = bits-total k n k (omega arith) in
     let all = all_bits n k below in
-    let more = spare-none spare in
+    let more = spare-none k spare in
     omega (arith, ints, both, bits, all, more, l)
   where
     enough-some : (a : ℤ) → 1 ≤ enough_for a
@@ -100,25 +103,6 @@ counted-more n q some =
     last : (b : Bool) → length (if b then (q ∷ []) else []) ≡ (if b then 1 else 0)
     last true = refl
     last false = refl
-
--- values that agree on all items
-pub total-where : (f g : ℕ → ℤ) (qs : List ℕ) → All (λ q. f q ≡ g q) qs → total f qs ≡ total g qs
-total-where f g [] all = refl
-total-where f g (q ∷ qs) all =
-    let here = All-head (λ q. f q ≡ g q) q qs all in
-    let rest = total-where f g qs (All-tail (λ q. f q ≡ g q) q qs all) in
-    omega (arith, ints, here, rest)
-
--- ---- what all nodes rest on
-
-pub record IsFilled (coefs : List ℤ) (bound : ℤ) (k : ℕ) (helpers : List ℕ) : Type 0 where
-  pub are : list_all (is_counted (says_enough bound) (enough_for bound)) coefs ≡ true
-  pub within : enough_for bound ≤ 2 ^ k
-  pub least : 2 ^ k ≤ full_size coefs k
-  pub covers : (i : ℕ) → i < length coefs → nat_abs (get_or coefs i (pos 0)) ≤ full_size coefs k
-  pub formed : IsLeaf (flock_leaf_with coefs (says_enough bound) (enough_for bound) k helpers)
-  pub filled : total (λ q. pos (size_in q)) helpers ≡ (pos (2 ^ k) -ℤ pos (enough_for bound))
-  pub low : All (λ q. q ≤ k) helpers
 
 -- ---- without an offset
 

@@ -1,59 +1,39 @@
--- Powers of 2, and the sizes of states.
-use Rattle.std.proofs.Common.{◌≡◌, ◌⊎◌, ◌∙◌, inl, inr, ℕ, zero, suc, ◌+◌, ◌-◌, ◌^◌, ◌<◌, ◌≤◌, refl, ap, arith}
-use Rattle.std.specs.Prelude.{pos, ◌-ℤ◌, ◌*ℤ◌}
-use Rattle.std.specs.List.{range_with_len}
-use Rattle.std.proofs.lemmas.Int.{ints}
-use Rattle.std.proofs.Math.Pow.{pow-lt}
-use Rattle.std.proofs.lemmas.Bool.{cases_lt, ne_eqb}
-use Rattle.comp_bits.proofs.Bits.{double, some_power, power-le}
-use Rattle.cert_base.specs.WeightedSums.{total}
-use Rattle.cert_base.proofs.FlowSums.{times-one}
+-- The worths of states that hold powers of two.
+use Rattle.std.proofs.Common.{◌≡◌, ◌∙◌, ℕ, suc, ◌+◌, ◌^◌, ◌≤◌, refl, ap, zero-add, arith}
+use Rattle.std.proofs.lemmas.List.FromFn.{length-map-range_with_len, get_or-map-range_with_len}
+use Rattle.comp_trees.proofs.Bits.{double, some_power, power-le}
 use Rattle.comp_counting.specs.declared.limits.TheConstants.{POWER_LIMIT}
-use Rattle.comp_flock.specs.FlockLeaf.{size_in}
+use Rattle.std.proofs.lemmas.List.Elements.{All-from_get_or}
+use Rattle.comp_flock.specs.CountLeaf.{worth_in, AreWorths}
+use Rattle.comp_flock.specs.Covered.{IsChain}
+use Rattle.comp_flock.specs.FlockLeaf.{power_worths}
+use Rattle.comp_flock.proofs.WorthLaws.{no-more}
 
 pub power_small : (k : ℕ) → k ≤ POWER_LIMIT → 2 ^ k ≤ 2 ^ POWER_LIMIT
 power_small k l = power-le k POWER_LIMIT l
 
--- the size of state i + 1
-pub size-power : (i : ℕ) → size_in (i + 1) ≡ 2 ^ i
-size-power i =
-    let some = ne_eqb (i + 1) 0 (λ e. omega arith) in
-    let less : i + 1 - 1 ≡ i = omega arith in
-    rw (some, less) refl
+-- the worth of state i + 1
+pub worth-power : (k i : ℕ) → i ≤ k → worth_in (power_worths k) (i + 1) ≡ 2 ^ i
+worth-power k i l =
+    ap (worth_in (power_worths k)) (let e : i + 1 ≡ suc i = omega arith in e)
+    ∙ get_or-map-range_with_len (λ i. 2 ^ i) 0 (k + 1) i i 0 (omega (arith, l)) (zero-add i)
 
-size-suc : (i : ℕ) → size_in (suc i) ≡ 2 ^ i
-size-suc i = ap size_in (let e : suc i ≡ i + 1 = omega arith in e) ∙ size-power i
+pub powers-chain : (k : ℕ) → IsChain (power_worths k) (2 ^ k) k k
+powers-chain k = record {
+  long = omega (arith, length-map-range_with_len (λ i. 2 ^ i) 0 (k + 1));
+  low = omega arith;
+  few = omega arith;
+  nothing = refl;
+  powers = λ i l. worth-power k i l;
+  last = worth-power k k (omega arith);
+  below = (let twice = double k in let some = some_power k in omega (arith, twice, some));
+  steps = λ q l m. absurd (omega (arith, l, m));
+}
 
--- the size of a later state
-pub size-at : (q i : ℕ) → q ≡ i + 1 → size_in q ≡ 2 ^ i
-size-at q i e = ap size_in e ∙ size-power i
-
-pub size-le : (k q : ℕ) → q ≤ k + 1 → size_in q ≤ 2 ^ k
-size-le k zero l = omega (arith, some_power k)
-size-le k (suc i) l = let e = size-suc i in let m = power-le i k (omega arith) in omega (arith, e, m)
-
-pub size-apart : (p q : ℕ) → p < q → size_in p < size_in q
-size-apart p zero l = absurd (omega arith)
-size-apart zero (suc j) l = let e = size-suc j in let m = some_power j in omega (arith, e, m)
-size-apart (suc i) (suc j) l =
-    let e = size-suc i in let f = size-suc j in let m = pow-lt (let k : i < j = omega arith in k) in omega (arith, e, f, m)
-
-pub size-injective : (p q : ℕ) → size_in p ≡ size_in q → p ≡ q
-size-injective p q e = go (cases_lt p q) (cases_lt q p)
-  where
-    go : (p < q) ⊎ (q ≤ p) → (q < p) ⊎ (p ≤ q) → p ≡ q
-    go (inl l) m = let f = size-apart p q l in absurd (omega arith)
-    go (inr l) (inl m) = let f = size-apart q p m in absurd (omega arith)
-    go (inr l) (inr m) = omega arith
-
--- the sizes of n states from state a + 1 on
-pub sizes-total : (a n : ℕ) → total (λ q. pos (size_in q) *ℤ pos 1) (range_with_len (a + 1) n) ≡ (pos (2 ^ (a + n)) -ℤ pos (2 ^ a))
-sizes-total a zero =
-    let same : 2 ^ (a + 0) ≡ 2 ^ a = ap (λ m. 2 ^ m) (let e : a + 0 ≡ a = omega arith in e) in omega (arith, ints, same)
-sizes-total a (suc n) =
-    let rest = sizes-total (a + 1) n in
-    let here = times-one (pos (size_in (a + 1))) in
-    let size = size-power a in
-    let twice = double a in
-    let same : 2 ^ (a + suc n) ≡ 2 ^ (a + 1 + n) = ap (λ m. 2 ^ m) (let e : a + suc n ≡ a + 1 + n = omega arith in e) in
-    omega (arith, ints, rest, here, size, twice, same)
+-- what the code knows of the worths
+pub power-are : (k : ℕ) → k ≤ POWER_LIMIT → AreWorths (power_worths k) k
+power-are k high = record {
+  long = (powers-chain k).long;
+  few = omega (arith, high);
+  small = All-from_get_or (λ n. n ≤ 2 ^ POWER_LIMIT) (power_worths k) 0 (λ i l. let most = no-more (power_worths k) (2 ^ k) k k (powers-chain k) i (let long = (powers-chain k).long in omega (arith, l, long)) in let within = power_small k high in omega (arith, most, within));
+}

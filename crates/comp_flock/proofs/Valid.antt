@@ -1,105 +1,120 @@
--- The proof of a built leaf of a flock atom is valid.
-use Rattle.std.proofs.Common.{◌≡◌, ◌∙◌, subst, ℕ, ◌≤◌, Bool, true, false, List, [], length, refl, ap, sym, arith}
-use Rattle.std.specs.Prelude.{ℤ, not}
-use Rattle.std.proofs.lemmas.Bool.{ne_eqb}
+-- The proof of a built leaf is valid and within the limits.
+use Rattle.std.proofs.Common.{◌≡◌, ◌∙◌, ℕ, ◌^◌, Bool, true, false, List, [], length, refl, ap, sym, subst, arith}
+use Rattle.std.specs.Prelude.{ℤ, not, AllPairs}
 use Rattle.pop_leaf.specs.LeafModel.{LeafModel}
+use Rattle.pop_leaf.specs.Reaction.{Differ}
 use Rattle.pres_ast.specs.PredModel.{PredModel}
 use Rattle.cert_base.specs.declared.layer.Layer.{Layer}
 use Rattle.cert_base.specs.declared.node.Node.{Node}
 use Rattle.cert_base.specs.declared.proof.LeafProof.{LeafProof}
 use Rattle.cert_base.specs.FactsAndCases.{base_list}
 use Rattle.cert_base.specs.Closes.{Closes}
+use Rattle.cert_base.specs.ProofBound.{layers_bound}
 use Rattle.cert_base.specs.ValidProof.{ValidLeafProof}
-use Rattle.cert_base.specs.ProofLimits.{IsLeafProofWithin, AreNodesWithin}
+use Rattle.cert_base.specs.ProofLimits.{IsLeafProofWithin}
+use Rattle.cert_base.specs.TameLayers.{TameLayers}
 use Rattle.comp_trees.specs.BuiltLeaf.{IsBuilt}
-use Rattle.comp_counting.specs.FlockAtoms.{says_enough, enough_for, flock_bound, IsFlock, IsOffset, flock_pred_of, offset_pred_of}
-use Rattle.comp_flock.specs.FlockLeaf.{all_offset_helpers, flock_leaf_of, offset_leaf_of, HasSpareRoom}
-use Rattle.comp_flock.specs.FlockProof.{full_size, flock_layers_of, flock_tree, offset_part, flock_part}
-use Rattle.comp_counting.specs.FullState.{flock_steps, offset_steps}
-use Rattle.comp_flock.proofs.Powers.{power_small}
-use Rattle.comp_flock.proofs.Starts.{full-least, full-most, full-covers}
-use Rattle.comp_flock.proofs.Formed.{offset-formed}
-use Rattle.comp_flock.proofs.Layers.{layers-valid}
+use Rattle.comp_counting.specs.FlockAtoms.{says_enough, enough_for, IsOffset, offset_pred_of}
+use Rattle.comp_counting.specs.declared.limits.TheConstants.{POWER_LIMIT}
+use Rattle.comp_counting.specs.FullState.{offset_steps}
+use Rattle.comp_flock.specs.Covered.{IsCovered}
+use Rattle.comp_flock.specs.CountLeaf.{count_leaf}
+use Rattle.comp_flock.specs.CountProof.{count_tree, tree_for, count_part}
+use Rattle.comp_flock.specs.PrefixLeaf.{bound_worths, last_place, IsPrefix}
+use Rattle.comp_flock.specs.PrefixLaw.{IsPrefixRight}
+use Rattle.comp_flock.proofs.MoveLists.{moves-few, moves-single}
+use Rattle.comp_flock.proofs.Layers.{layers-valid, layers-tame, steps-are}
+use Rattle.comp_flock.proofs.Formed.{bound-chain, states-long, prefix-formed}
+use Rattle.comp_flock.proofs.Covered.{prefix-covered}
 use Rattle.comp_flock.proofs.Closing.{tree-enough, tree-too-few}
-use Rattle.comp_flock.proofs.Offsets.{helpers-total, helpers-low, flock-leaf, flock-offset, flock-room, IsFilled}
 use Rattle.comp_flock.proofs.Within.{layers-within, tree-within}
 
-offset-filled : (coefs : List ℤ) (bound : ℤ) (k spare : ℕ) → IsOffset coefs bound k → HasSpareRoom bound k spare → IsFilled coefs bound k (all_offset_helpers bound k spare)
-offset-filled coefs bound k spare is room = record {
-  are = is.are;
-  within = is.within;
-  least = full-least coefs k is.high;
-  covers = full-covers coefs k is.high is.sum.small;
-  formed = offset-formed coefs bound k spare is room;
-  filled = helpers-total bound k spare is.within;
-  low = helpers-low bound k spare;
-}
-
 -- each tree is for its value
-by-value : (leaf : LeafModel) (pred : PredModel) (full c k : ℕ) (says : Bool) → Closes leaf (base_list leaf pred says) (flock_tree true full c k) [] → Closes leaf (base_list leaf pred (not says)) (flock_tree false full c k) [] → Closes leaf (base_list leaf pred true) (flock_tree says full c k) [] × Closes leaf (base_list leaf pred false) (flock_tree (not says) full c k) []
-by-value leaf pred full c k true enough few = (enough, few)
-by-value leaf pred full c k false enough few = (few, enough)
+by-value : (leaf : LeafModel) (pred : PredModel) (most : ℕ) (ws : List ℕ) (t c k top : ℕ) (says : Bool) → Closes leaf (base_list leaf pred says) (count_tree true leaf most ws t c k top) [] → Closes leaf (base_list leaf pred (not says)) (count_tree false leaf most ws t c k top) [] → Closes leaf (base_list leaf pred true) (count_tree says leaf most ws t c k top) [] × Closes leaf (base_list leaf pred false) (count_tree (not says) leaf most ws t c k top) []
+by-value leaf pred most ws t c k top true enough few = (enough, few)
+by-value leaf pred most ws t c k top false enough few = (few, enough)
 
-pub offset-valid : (coefs : List ℤ) (bound : ℤ) (k spare : ℕ) → IsOffset coefs bound k → HasSpareRoom bound k spare → ValidLeafProof (offset_leaf_of coefs bound k spare) (offset_part coefs bound k)
-offset-valid coefs bound k spare is room =
-    let helpers = all_offset_helpers bound k spare in
-    let filled = offset-filled coefs bound k spare is room in
-    let trees = by-value (offset_leaf_of coefs bound k spare) (offset_pred_of coefs bound) (full_size coefs k) (enough_for bound) k (says_enough bound) (tree-enough coefs bound k helpers is.high filled) (tree-too-few coefs bound k helpers is.high filled) in
-    record {
-      layers = layers-valid coefs (says_enough bound) (enough_for bound) k helpers;
-      on_true = trees.0;
-      on_false = trees.1;
-    }
+-- no tree looks at the helpers
+pub tree-alone : (coefs : List ℤ) (says : Bool) (c : ℕ) (keeps : Bool) (t most : ℕ) (ws : List ℕ) (top k : ℕ) (helpers : List ℕ) (enough : Bool) → count_tree enough (count_leaf coefs says c keeps t ws k helpers) most ws t c k top ≡ count_tree enough (count_leaf coefs says c keeps t ws k []) most ws t c k top
+tree-alone coefs says c keeps t most ws top k helpers true = refl
+tree-alone coefs says c keeps t most ws top k helpers false = refl
 
-pub offset-within : (coefs : List ℤ) (bound : ℤ) (k : ℕ) → IsOffset coefs bound k → IsLeafProofWithin (length coefs) (offset_part coefs bound k)
-offset-within coefs bound k is = record {
-  pred = refl;
-  layer_count = omega arith;
-  layers = layers-within k is.high;
-  on_true = tree (says_enough bound);
-  on_false = tree (not (says_enough bound));
-}
-  where
-    tree : (says : Bool) → AreNodesWithin (flock_tree says (full_size coefs k) (enough_for bound) k)
-    tree = tree-within k is.high (full_size coefs k) (enough_for bound) (full-most coefs k is.high) (let a = is.within in let b = power_small k is.high in omega (arith, a, b))
+module _ (coefs : List ℤ) (bound : ℤ) (keeps : Bool) (t most : ℕ) (ws : List ℕ) (top k : ℕ) (helpers : List ℕ) (is : IsCovered coefs bound keeps t most ws top k helpers) where
+  abbrev c : ℕ
+  c = enough_for bound
+
+  abbrev says : Bool
+  says = says_enough bound
+
+  abbrev leaf : LeafModel
+  leaf = count_leaf coefs says c keeps t ws k helpers
+
+  abbrev pred : PredModel
+  pred = offset_pred_of coefs bound
+
+  abbrev part : LeafProof
+  part = count_part coefs bound keeps t most ws top k
+
+  -- the atom is one that a flock of the greatest power computes too
+  pub count-offset : IsOffset coefs bound POWER_LIMIT
+  count-offset = record { sum = is.sum; are = is.are; high = omega arith; within = (let a = is.reach in let b = is.within in let d = is.high in omega (arith, a, b, d)) }
+
+  pub count-valid : ValidLeafProof leaf part
+  count-valid =
+      let trees = by-value leaf pred most ws t c k top says (tree-enough coefs bound keeps t most ws top k helpers is) (tree-too-few coefs bound keeps t most ws top k helpers is) in
+      record {
+        layers = layers-valid keeps ws t top k is.chain coefs says c helpers;
+        on_true = subst (λ nodes. Closes leaf (base_list leaf pred true) nodes []) (tree-alone coefs says c keeps t most ws top k helpers says) trees.0;
+        on_false = subst (λ nodes. Closes leaf (base_list leaf pred false) nodes []) (tree-alone coefs says c keeps t most ws top k helpers (not says)) trees.1;
+      }
+
+  pub count-within : IsLeafProofWithin (length coefs) part
+  count-within =
+      let count = moves-few keeps ws t k (let short = is.short in omega (arith, short)) in
+      record {
+        pred = refl;
+        layer_count = omega arith;
+        layers = layers-within (length leaf.moves) k (omega (arith, count)) (let short = is.short in omega (arith, short));
+        on_true = tree-within keeps ws c t most top k is.chain is.reach is.within is.high is.short coefs says [] says;
+        on_false = tree-within keeps ws c t most top k is.chain is.reach is.within is.high is.short coefs says [] (not says);
+      }
+
+  pub count-tame : TameLayers leaf part.layers
+  count-tame = layers-tame keeps ws t top k is.chain coefs says c helpers
+
+  pub count-built : (made : LeafModel) (proof : LeafProof) → made ≡ leaf → proof ≡ part → IsBuilt leaf pred (offset_steps k) made proof
+  count-built made proof el ep = record {
+    leaf_is = el;
+    pred_is = ap (λ (p : LeafProof). p.pred) ep;
+    valid = subst (λ l. ValidLeafProof l proof) (sym el) (subst (ValidLeafProof leaf) (sym ep) count-valid);
+    bound = ap (λ (p : LeafProof). layers_bound p.layers) ep ∙ steps-are (length leaf.moves) k;
+    within = subst (IsLeafProofWithin (length coefs)) (sym ep) count-within;
+    tame = subst (λ l. TameLayers l proof.layers) (sym el) (subst (λ (p : LeafProof). TameLayers leaf p.layers) (sym ep) count-tame);
+    single = subst (λ (l : LeafModel). AllPairs Differ l.moves) (sym el) (moves-single keeps ws t k);
+  }
 
 -- the proof as the code puts it together
-pub part-as : (coefs : List ℤ) (bound : ℤ) (k : ℕ) (pred : PredModel) (layers : List Layer) (on_true on_false : List Node) → pred ≡ offset_pred_of coefs bound → layers ≡ flock_layers_of k → on_true ≡ flock_tree (says_enough bound) (full_size coefs k) (enough_for bound) k → on_false ≡ flock_tree (not (says_enough bound)) (full_size coefs k) (enough_for bound) k → record { pred = pred; layers = layers; on_true = on_true; on_false = on_false } ≡ offset_part coefs bound k
-part-as coefs bound k pred layers on_true on_false ep ey ea eb =
-    let part : PredModel → List Layer → List Node → List Node → LeafProof = λ p y a b. record { pred = p; layers = y; on_true = a; on_false = b } in
-    let says = says_enough bound in
-    let tree : Bool → List Node = λ says. flock_tree says (full_size coefs k) (enough_for bound) k in
-    ap (λ p. part p layers on_true on_false) ep
-    ∙ ap (λ y. part (offset_pred_of coefs bound) y on_true on_false) ey
-    ∙ ap (λ a. part (offset_pred_of coefs bound) (flock_layers_of k) a on_false) ea
-    ∙ ap (λ b. part (offset_pred_of coefs bound) (flock_layers_of k) (tree says) b) eb
+pub part-made : (coefs : List ℤ) (bound : ℤ) (keeps : Bool) (t most : ℕ) (ws : List ℕ) (top k : ℕ) (pred : PredModel) (layers : List Layer) (on_true on_false : List Node) → pred ≡ (count_part coefs bound keeps t most ws top k).pred → layers ≡ (count_part coefs bound keeps t most ws top k).layers → on_true ≡ tree_for coefs bound keeps t most ws top k (says_enough bound) → on_false ≡ tree_for coefs bound keeps t most ws top k (not (says_enough bound)) → record { pred = pred; layers = layers; on_true = on_true; on_false = on_false } ≡ count_part coefs bound keeps t most ws top k
+part-made coefs bound keeps t most ws top k pred layers on_true on_false ep ey ea eb =
+    let part = count_part coefs bound keeps t most ws top k in
+    let make : PredModel → List Layer → List Node → List Node → LeafProof = λ p y a b. record { pred = p; layers = y; on_true = a; on_false = b } in
+    ap (λ p. make p layers on_true on_false) ep
+    ∙ ap (λ y. make part.pred y on_true on_false) ey
+    ∙ ap (λ a. make part.pred part.layers a on_false) ea
+    ∙ ap (λ b. make part.pred part.layers part.on_true b) eb
 
-pub whole-valid : (coefs : List ℤ) (bound : ℤ) (k spare : ℕ) (leaf : LeafModel) (part : LeafProof) → leaf ≡ offset_leaf_of coefs bound k spare → part ≡ offset_part coefs bound k → IsOffset coefs bound k → HasSpareRoom bound k spare → ValidLeafProof leaf part
-whole-valid coefs bound k spare leaf part el ep is room =
-    subst (λ l. ValidLeafProof l part) (sym el) (subst (ValidLeafProof (offset_leaf_of coefs bound k spare)) (sym ep) (offset-valid coefs bound k spare is room))
+-- ---- prefixes
 
--- ---- without an offset
-
-pub no-spare : (k : ℕ) → HasSpareRoom (flock_bound k) k 0
-no-spare k = let none = flock-room k in omega (arith, none)
-
-pub flock-valid : (coefs : List ℤ) (k : ℕ) → IsFlock coefs k → ValidLeafProof (flock_leaf_of coefs k) (flock_part coefs k)
-flock-valid coefs k is =
-    subst (λ l. ValidLeafProof l (flock_part coefs k)) (flock-leaf coefs k) (offset-valid coefs (flock_bound k) k 0 (flock-offset coefs k is) (no-spare k))
-
-pub flock-within : (coefs : List ℤ) (k : ℕ) → IsFlock coefs k → IsLeafProofWithin (length coefs) (flock_part coefs k)
-flock-within coefs k is = offset-within coefs (flock_bound k) k (flock-offset coefs k is)
-
--- what is built with the bound of a flock is the flock
-pub flock-built : (coefs : List ℤ) (k : ℕ) (leaf : LeafModel) (part : LeafProof) → IsFlock coefs k → IsBuilt (offset_leaf_of coefs (flock_bound k) k 0) (offset_pred_of coefs (flock_bound k)) (offset_steps k) leaf part → IsBuilt (flock_leaf_of coefs k) (flock_pred_of coefs k) flock_steps leaf part
-flock-built coefs k leaf part is built = record {
-  leaf_is = built.leaf_is ∙ flock-leaf coefs k;
-  pred_is = built.pred_is;
-  valid = built.valid;
-  bound = built.bound ∙ two k is.low;
-  within = built.within;
-  single = built.single;
-}
-  where
-    two : (k : ℕ) → 1 ≤ k → offset_steps k ≡ flock_steps
-    two k some = let e = ne_eqb k 0 (λ e. omega arith) in rw e refl
+pub prefix-right : (coefs : List ℤ) (bound : ℤ) (top : ℕ) → IsPrefix coefs bound top → IsPrefixRight coefs bound top
+prefix-right coefs bound top is =
+    let ws = bound_worths bound top in
+    let k = last_place bound top in
+    let covered = prefix-covered coefs bound top is in
+    record {
+      formed = prefix-formed coefs bound top is;
+      few = (let long = states-long ws k in let few = (bound-chain coefs bound top is).few in omega (arith, long, few));
+      alone = refl;
+      single = moves-single false ws (enough_for bound) k;
+      valid = count-valid coefs bound false (enough_for bound) (2 ^ POWER_LIMIT) ws top k [] covered;
+      within = count-within coefs bound false (enough_for bound) (2 ^ POWER_LIMIT) ws top k [] covered;
+    }

@@ -1,3 +1,9 @@
+pub mod CountLeaf
+pub mod CountProof
+pub mod Covered
+pub mod PrefixLeaf
+pub mod PrefixProof
+pub mod PrefixLaw
 pub mod FlockLeaf
 pub mod FlockProof
 pub mod OffsetLaw

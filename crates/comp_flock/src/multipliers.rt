@@ -1,101 +1,240 @@
 //! The multipliers of the nodes.
 
-ghost use Rattle.std.specs.Prelude.{◌≡◌, ◌≤◌, ◌≤ℤ◌, ◌+◌, ◌^◌, map, pos, neg_ℤ, IfOk};
+ghost use Rattle.std.specs.Prelude.{◌≡◌, ◌≤◌, ◌<◌, ◌+◌, ◌-◌, ◌^◌, ◌++◌, ◌∷◌, [], length, map, pos, neg_ℤ, IfOk};
 ghost use Rattle.std.specs.List.{range_with_len};
+ghost use Rattle.cert_base.specs.Rows.{zeros};
+ghost use Rattle.comp_trees.specs.LeaderTree.{company_of};
 ghost use Rattle.comp_counting.specs.declared.limits.TheConstants.{POWER_LIMIT};
-ghost use Rattle.comp_flock.specs.FlockLeaf.{size_in};
-ghost use Rattle.comp_counting.specs.FullState.{flock_state_count};
-ghost use Rattle.comp_flock.specs.FlockProof.{lesser_size, greatest_size, few_mix, first_mix};
+ghost use Rattle.comp_counting.specs.FullState.{for_states};
+ghost use Rattle.comp_flock.specs.CountProof.{greatest_worth, lost_worth as lost_of, lesser_worth as lesser_of};
+ghost use Rattle.comp_flock.specs.CountProof.{is_low as low_of, kept_worth as kept_of, ruled_worth as ruled_of};
+ghost use Rattle.comp_flock.specs.CountProof.{own_worth as own_of, with_mix, without_mix, first_mix};
 
-use crate::naming::size_of;
-use comp_trees::mix;
+use crate::worths::{Worths, worth_in};
+use comp_trees::{company, mix, picked};
 use pop_io::NoMemory;
+use pop_leaf::Leaf;
 use std::alloc::Global;
 
-fn size(q: u16) -> i64
-    requires { q ≤ POWER_LIMIT + 1 }
-    ensures { result ≡ pos (size_in q) }
+fn own_worth(worths: &Worths<'_>, q: u16) -> i64
+    requires state { q ≤ worths.now.k + 1 }
+    ensures { result ≡ own_of worths.now.list.now q }
 {
-    size_of(q) as i64
+    worth_in(worths, q) as i64
 }
 
-/// The greatest size of a state, which is `full` for 2^k.
-fn greatest(full: u64, power: u16, q: u16) -> i64
-    requires full { full ≤ 2 ^ POWER_LIMIT }
-    requires power { power ≤ POWER_LIMIT }
-    requires state { q ≤ POWER_LIMIT + 1 }
-    ensures value { result ≡ pos (greatest_size full power q) }
-    ensures some { pos 0 ≤ℤ result }
+/// What an agent in the state is worth at most.
+fn greatest(worths: &Worths<'_>, q: u16) -> u64
+    requires state { q ≤ worths.now.k + 1 }
+    ensures value { result ≡ greatest_worth worths.now.most worths.now.list.now worths.now.k q }
+    ensures small { result ≤ 2 ^ POWER_LIMIT }
 {
-    if q == power + 1 { full as i64 } else { size(q) }
+    if q == worths.k + 1 {
+        worths.most
+    } else {
+        worth_in(worths, q)
+    }
 }
 
-fn lost(full: u64, power: u16, q: u16) -> i64
-    requires full { full ≤ 2 ^ POWER_LIMIT }
-    requires power { power ≤ POWER_LIMIT }
-    requires state { q ≤ POWER_LIMIT + 1 }
-    ensures { result ≡ neg_ℤ (pos (greatest_size full power q)) }
+fn lost_worth(worths: &Worths<'_>, q: u16) -> i64
+    requires state { q ≤ worths.now.k + 1 }
+    ensures { result ≡ lost_of worths.now.most worths.now.list.now worths.now.k q }
 {
-    -greatest(full, power, q)
+    -(greatest(worths, q) as i64)
 }
 
-/// The size of a state, but 0 for 2^k itself.
-fn size_below(power: u16, q: u16) -> i64
-    requires power { power ≤ POWER_LIMIT }
-    requires state { q ≤ POWER_LIMIT + 1 }
-    ensures { result ≡ lesser_size power q }
+/// What it is worth, but 0 for the full state.
+fn lesser_worth(worths: &Worths<'_>, q: u16) -> i64
+    requires state { q ≤ worths.now.k + 1 }
+    ensures { result ≡ lesser_of worths.now.list.now worths.now.k q }
 {
-    if q == power + 1 { 0 } else { size(q) }
+    if q == worths.k + 1 {
+        0
+    } else {
+        own_worth(worths, q)
+    }
 }
 
-fn all_lost(alloc: Global, full: u64, power: u16) -> Result<Vec<i64>, NoMemory>
-    requires full { full ≤ 2 ^ POWER_LIMIT }
-    requires power { power ≤ POWER_LIMIT }
-    ensures { IfOk result (λ all.
-        all.items ≡ map (λ q. neg_ℤ (pos (greatest_size full power q))) (range_with_len 0 (flock_state_count power))) }
+/// Whether an agent is worth less than what a prefix lacks to the next.
+fn is_low(worths: &Worths<'_>, p: u16, q: u16) -> bool
+    requires prefix { p ≤ worths.now.k }
+    requires state { q ≤ worths.now.k + 1 }
+    ensures { result ≡ low_of worths.now.list.now p q }
 {
-    let all = (0..power + 2).map(|q| lost(full, power, q)).collect(alloc)?;
-    Ok(all)
+    worth_in(worths, p) + worth_in(worths, q) < worth_in(worths, p + 1)
 }
 
-fn all_below(alloc: Global, power: u16) -> Result<Vec<i64>, NoMemory>
-    requires { power ≤ POWER_LIMIT }
-    ensures { IfOk result (λ all. all.items ≡ map (lesser_size power) (range_with_len 0 (flock_state_count power))) }
+fn kept_worth(worths: &Worths<'_>, p: u16, q: u16) -> i64
+    requires prefix { p ≤ worths.now.k }
+    requires state { q ≤ worths.now.k + 1 }
+    ensures { result ≡ kept_of worths.now.list.now p q }
 {
-    let all = (0..power + 2).map(|q| size_below(power, q)).collect(alloc)?;
-    Ok(all)
+    if is_low(worths, p, q) {
+        own_worth(worths, q)
+    } else {
+        0
+    }
 }
 
-/// The sizes of the powers below 2^k.
-fn sizes(alloc: Global, full: u64, power: u16) -> Result<Vec<i64>, NoMemory>
-    requires full { full ≤ 2 ^ POWER_LIMIT }
-    requires power { power ≤ POWER_LIMIT }
-    ensures { IfOk result (λ all. all.items ≡ map (λ q. pos (greatest_size full power q)) (range_with_len 1 power)) }
+fn ruled_worth(worths: &Worths<'_>, p: u16, q: u16) -> i64
+    requires prefix { p ≤ worths.now.k }
+    requires state { q ≤ worths.now.k + 1 }
+    ensures { result ≡ ruled_of worths.now.most worths.now.list.now worths.now.k p q }
 {
-    let all = (1..power + 1)
-        .map(|q| greatest(full, power, q))
+    if is_low(worths, p, q) {
+        0
+    } else {
+        lost_worth(worths, q)
+    }
+}
+
+fn all_lost(alloc: Global, worths: &Worths<'_>) -> Result<Vec<i64>, NoMemory>
+    ensures { IfOk result (λ all. all.items ≡ for_states worths.now.k (lost_of worths.now.most worths.now.list.now worths.now.k)) }
+{
+    let all = (0..worths.k + 2)
+        .map(|q| lost_worth(worths, q))
         .collect(alloc)?;
     Ok(all)
 }
 
-/// 2^k is absent, and each smaller power is present at most once.
-pub(crate) fn few(alloc: Global, full: u64, power: u16) -> Result<Vec<i64>, NoMemory>
-    requires full { full ≤ 2 ^ POWER_LIMIT }
-    requires power { power ≤ POWER_LIMIT }
-    ensures { IfOk result (λ multipliers. multipliers.items ≡ few_mix full power) }
+fn all_lesser(alloc: Global, worths: &Worths<'_>) -> Result<Vec<i64>, NoMemory>
+    ensures { IfOk result (λ all. all.items ≡ for_states worths.now.k (lesser_of worths.now.list.now worths.now.k)) }
 {
-    let mut own = Vec::from_slice(alloc, &[-(full as i64)])?;
-    let sizes = sizes(alloc, full, power)?;
-    own.extend_from_slice(sizes.as_slice())?;
-    let flows = all_lost(alloc, full, power)?;
+    let all = (0..worths.k + 2)
+        .map(|q| lesser_worth(worths, q))
+        .collect(alloc)?;
+    Ok(all)
+}
+
+fn all_ruled(alloc: Global, worths: &Worths<'_>, p: u16) -> Result<Vec<i64>, NoMemory>
+    requires prefix { p ≤ worths.now.k }
+    ensures { IfOk result (λ all. all.items ≡ for_states worths.now.k (ruled_of worths.now.most worths.now.list.now worths.now.k p)) }
+{
+    let all = (0..worths.k + 2)
+        .map(|q| ruled_worth(worths, p, q))
+        .collect(alloc)?;
+    Ok(all)
+}
+
+/// What is kept of the powers.
+fn all_kept(alloc: Global, worths: &Worths<'_>, p: u16) -> Result<Vec<i64>, NoMemory>
+    requires prefix { p ≤ worths.now.k }
+    ensures { IfOk result (λ all. all.items ≡ map (kept_of worths.now.list.now p) (range_with_len 1 worths.now.top)) }
+{
+    let all = (1..worths.top + 1)
+        .map(|q| kept_worth(worths, p, q))
+        .collect(alloc)?;
+    Ok(all)
+}
+
+fn powers(alloc: Global, worths: &Worths<'_>) -> Result<Vec<i64>, NoMemory>
+    ensures { IfOk result (λ all. all.items ≡ map (own_of worths.now.list.now) (range_with_len 1 worths.now.top)) }
+{
+    let all = (1..worths.top + 1)
+        .map(|q| own_worth(worths, q))
+        .collect(alloc)?;
+    Ok(all)
+}
+
+/// What the prefixes lose.
+fn prefixes(alloc: Global, worths: &Worths<'_>) -> Result<Vec<i64>, NoMemory>
+    ensures { IfOk result (λ all. all.items ≡ map (lost_of worths.now.most worths.now.list.now worths.now.k)
+        (range_with_len (worths.now.top + 1) (worths.now.k - worths.now.top))) }
+{
+    let all = (worths.top + 1..worths.k + 1)
+        .map(|q| lost_worth(worths, q))
+        .collect(alloc)?;
+    Ok(all)
+}
+
+/// The multipliers of the powers' facts, behind that of the full state.
+fn behind(alloc: Global, first: i64, powers: Vec<i64>) -> Result<Vec<i64>, NoMemory>
+    ensures { IfOk result (λ all. all.items ≡ first ∷ powers.items) }
+{
+    let mut all = Vec::from_slice(alloc, &[first])?;
+    all.extend_from_slice(powers.as_slice())?;
+    Ok(all)
+}
+
+/// Those above a prefix: the full state, the powers, and the prefixes before it.
+fn above(alloc: Global, worths: &Worths<'_>, p: u16) -> Result<Vec<i64>, NoMemory>
+    requires top { worths.now.top < p }
+    requires prefix { p ≤ worths.now.k }
+    ensures { IfOk result (λ all.
+        all.items ≡ (pos 0 ∷ map (kept_of worths.now.list.now p) (range_with_len 1 worths.now.top))
+        ++ zeros (p - (worths.now.top + 1))) }
+{
+    let kept = all_kept(alloc, worths, p)?;
+    let mut all = behind(alloc, 0, kept)?;
+    let none = vec![in alloc; 0i64; usize::from(p - (worths.top + 1))]?;
+    all.extend_from_slice(none.as_slice())?;
+    Ok(all)
+}
+
+/// Those of the states that a prefix rules out.
+fn ruled_out(alloc: Global, leaf: &Leaf, worths: &Worths<'_>, p: u16) -> Result<Vec<i64>, NoMemory>
+    requires states { length leaf.now.states ≡ worths.now.k + 2 }
+    requires prefix { p ≤ worths.now.k }
+    ensures { IfOk result (λ out.
+        out.items ≡ map (ruled_of worths.now.most worths.now.list.now worths.now.k p) (company_of leaf.now p)) }
+{
+    let states = company(alloc, leaf, p)?;
+    let ruled = all_ruled(alloc, worths, p)?;
+    picked(alloc, ruled.as_slice(), states.as_slice())
+}
+
+/// Those of a prefix that is present: itself, whom it rules out, and that it is alone.
+fn present(alloc: Global, leaf: &Leaf, worths: &Worths<'_>, p: u16) -> Result<Vec<i64>, NoMemory>
+    requires states { length leaf.now.states ≡ worths.now.k + 2 }
+    requires prefix { p ≤ worths.now.k }
+    ensures { IfOk result (λ all. all.items
+        ≡ (pos 0 ∷ map (ruled_of worths.now.most worths.now.list.now worths.now.k p) (company_of leaf.now p))
+        ++ neg_ℤ (own_of worths.now.list.now p) ∷ []) }
+{
+    let out = ruled_out(alloc, leaf, worths, p)?;
+    let mut all = behind(alloc, 0, out)?;
+    all.push(-own_worth(worths, p))?;
+    Ok(all)
+}
+
+/// With a prefix, the first one that is present.
+pub(crate) fn with_prefix(
+    alloc: Global,
+    leaf: &Leaf,
+    worths: &Worths<'_>,
+    p: u16,
+) -> Result<Vec<i64>, NoMemory>
+    requires states { length leaf.now.states ≡ worths.now.k + 2 }
+    requires top { worths.now.top < p }
+    requires prefix { p ≤ worths.now.k }
+    ensures { IfOk result (λ multipliers.
+        multipliers.items ≡ with_mix leaf.now worths.now.most worths.now.list.now worths.now.k worths.now.top p) }
+{
+    let mut own = above(alloc, worths, p)?;
+    let present = present(alloc, leaf, worths, p)?;
+    own.extend_from_slice(present.as_slice())?;
+    let flows = all_lost(alloc, worths)?;
     mix(alloc, flows.as_slice(), 0, 1, own.as_slice())
 }
 
-/// The first 2^k was put together.
-pub(crate) fn first(alloc: Global, power: u16) -> Result<Vec<i64>, NoMemory>
-    requires { power ≤ POWER_LIMIT }
-    ensures { IfOk result (λ multipliers. multipliers.items ≡ first_mix power) }
+/// With no prefix.
+pub(crate) fn without_prefix(alloc: Global, worths: &Worths<'_>) -> Result<Vec<i64>, NoMemory>
+    ensures { IfOk result (λ multipliers.
+        multipliers.items ≡ without_mix worths.now.most worths.now.list.now worths.now.k worths.now.top) }
 {
-    let flows = all_below(alloc, power)?;
-    mix(alloc, flows.as_slice(), 0, 1, &[size(power + 1)])
+    let powers = powers(alloc, worths)?;
+    let mut own = behind(alloc, -(worths.most as i64), powers)?;
+    let prefixes = prefixes(alloc, worths)?;
+    own.extend_from_slice(prefixes.as_slice())?;
+    let flows = all_lost(alloc, worths)?;
+    mix(alloc, flows.as_slice(), 0, 1, own.as_slice())
+}
+
+/// The first full one takes the target.
+pub(crate) fn first(alloc: Global, worths: &Worths<'_>) -> Result<Vec<i64>, NoMemory>
+    ensures { IfOk result (λ multipliers.
+        multipliers.items ≡ first_mix worths.now.list.now worths.now.target worths.now.k) }
+{
+    let flows = all_lesser(alloc, worths)?;
+    mix(alloc, flows.as_slice(), 0, 1, &[worths.target as i64])
 }

@@ -1,12 +1,12 @@
 //! The helpers of a leaf.
 
 ghost use Rattle.std.specs.Prelude.{◌≡◌, ◌≤◌, ◌-◌, ◌^◌, ◌++◌, length, replicate, if◌then◌else◌, IfOk};
-ghost use Rattle.comp_bits.specs.Bits.{has_bit};
+ghost use Rattle.comp_trees.specs.Bits.{has_bit};
 ghost use Rattle.comp_counting.specs.declared.limits.TheConstants.{POWER_LIMIT};
 ghost use Rattle.comp_flock.specs.FlockLeaf.{bit_states, offset_helper_count as count_of};
 
-use comp_bits::{is_set, two_to};
 use comp_counting::enough_for;
+use comp_trees::{is_set, two_to};
 use pop_io::NoMemory;
 use std::alloc::Global;
 

@@ -1,100 +1,137 @@
 //! Both trees of a leaf.
 
-ghost use Rattle.std.specs.Prelude.{◌≡◌, ◌≤◌, ◌^◌, ◌++◌, map, nat_abs, nat_le, IfOk, OnOk};
-ghost use Rattle.std.specs.List.{range_with_len, list_all};
-ghost use Rattle.cert_base.specs.declared.node.Node.TheVariants.{Twin as twin_node};
-ghost use Rattle.comp_counting.specs.declared.limits.TheConstants.{POWER_LIMIT};
-ghost use Rattle.comp_flock.specs.FlockProof.{enough_tree as tree_of_enough, too_few_tree as tree_of_few, flock_tree};
-ghost use Rattle.comp_flock.specs.FlockProof.{full_size as full_size_of};
+ghost use Rattle.std.specs.Prelude.{◌≡◌, ◌≤◌, ◌<◌, ◌+◌, ◌-◌, ◌++◌, length, map, reverse, IfOk, OnOk};
+ghost use Rattle.std.specs.List.{range_with_len};
+ghost use Rattle.cert_base.specs.declared.node.Node.TheVariants.{Twin as twin_node, Present as present_node};
+ghost use Rattle.comp_trees.specs.LeaderTree.{weighed_node};
+ghost use Rattle.comp_counting.specs.declared.limits.TheConstants.{PLACE_LIMIT};
+ghost use Rattle.comp_flock.specs.CountProof.{with_mix, without_mix, prefix_nodes as nodes_of};
+ghost use Rattle.comp_flock.specs.CountProof.{enough_tree as tree_of_enough, too_few_tree as tree_of_few};
+ghost use Rattle.comp_flock.specs.CountProof.{count_tree};
 
-use crate::multipliers::{few, first};
+use crate::multipliers::{first, with_prefix, without_prefix};
+use crate::worths::Worths;
 use cert_base::Node;
-use comp_bits::two_to;
-use comp_counting::{
-    POWER_LIMIT as GREATEST_POWER, converted_node, full_tree, node, opened_number,
-};
+use comp_counting::{converted_node, full_tree, opened_number};
+use comp_trees::weighed;
 use pop_io::{List, NoMemory};
+use pop_leaf::Leaf;
 use std::alloc::Global;
 
-/// A twin for each power below 2^k.
-fn push_twins(nodes: &mut Vec<Node>, power: u16) -> Result<(), NoMemory>
-    requires { power ≤ POWER_LIMIT }
-    ensures { OnOk result (nodes.new.items ≡ nodes.old.items ++ map twin_node (range_with_len 1 power)) }
+/// A twin for each power.
+fn push_twins(nodes: &mut Vec<Node>, top: u16) -> Result<(), NoMemory>
+    requires { top ≤ PLACE_LIMIT }
+    ensures { OnOk result (nodes.new.items ≡ nodes.old.items ++ map twin_node (range_with_len 1 top)) }
 {
-    for q in 1..power + 1 {
+    for q in 1..top + 1 {
         nodes.push(Node::Twin(q))?;
     }
     Ok(())
 }
 
-/// Where there are enough: 2^k is absent at the end, or it is present.
-fn enough_tree(alloc: Global, full: u64, power: u16) -> Result<List<Node>, NoMemory>
-    requires full { full ≤ 2 ^ POWER_LIMIT }
-    requires power { power ≤ POWER_LIMIT }
-    ensures { IfOk result (λ nodes. nodes ≡ tree_of_enough full power) }
+fn with_node(alloc: Global, leaf: &Leaf, worths: &Worths<'_>, p: u16) -> Result<Node, NoMemory>
+    requires states { length leaf.now.states ≡ worths.now.k + 2 }
+    requires top { worths.now.top < p }
+    requires prefix { p ≤ worths.now.k }
+    ensures { IfOk result (λ node.
+        node ≡ weighed_node (with_mix leaf.now worths.now.most worths.now.list.now worths.now.k worths.now.top p)) }
+{
+    let multipliers = with_prefix(alloc, leaf, worths, p)?;
+    weighed(alloc, multipliers.as_slice())
+}
+
+fn without_node(alloc: Global, worths: &Worths<'_>) -> Result<Node, NoMemory>
+    ensures { IfOk result (λ node.
+        node ≡ weighed_node (without_mix worths.now.most worths.now.list.now worths.now.k worths.now.top)) }
+{
+    let multipliers = without_prefix(alloc, worths)?;
+    weighed(alloc, multipliers.as_slice())
+}
+
+/// Each prefix in turn is present or not.
+fn push_present(nodes: &mut Vec<Node>, k: u16, top: u16) -> Result<(), NoMemory>
+    requires top { top ≤ k }
+    requires few { k ≤ PLACE_LIMIT }
+    ensures { OnOk result (nodes.new.items ≡ nodes.old.items ++ map present_node (range_with_len (top + 1) (k - top))) }
+{
+    for p in top + 1..k + 1 {
+        nodes.push(Node::Present(p))?;
+    }
+    Ok(())
+}
+
+/// The ends of the prefixes, the last prefix's first.
+fn push_ends(
+    nodes: &mut Vec<Node>,
+    alloc: Global,
+    leaf: &Leaf,
+    worths: &Worths<'_>,
+) -> Result<(), NoMemory>
+    requires states { length leaf.now.states ≡ worths.now.k + 2 }
+    ensures { OnOk result (nodes.new.items ≡ nodes.old.items
+        ++ reverse (map (λ p. weighed_node (with_mix leaf.now worths.now.most worths.now.list.now worths.now.k worths.now.top p))
+        (range_with_len (worths.now.top + 1) (worths.now.k - worths.now.top)))) }
+{
+    for j in 0..worths.k - worths.top {
+        nodes.push(with_node(alloc, leaf, worths, worths.k - j)?)?;
+    }
+    Ok(())
+}
+
+/// Each prefix in turn is present, or none is.
+fn push_prefixes(
+    nodes: &mut Vec<Node>,
+    alloc: Global,
+    leaf: &Leaf,
+    worths: &Worths<'_>,
+) -> Result<(), NoMemory>
+    requires states { length leaf.now.states ≡ worths.now.k + 2 }
+    ensures { OnOk result (nodes.new.items
+        ≡ nodes.old.items ++ nodes_of leaf.now worths.now.most worths.now.list.now worths.now.k worths.now.top) }
+{
+    push_present(nodes, worths.k, worths.top)?;
+    nodes.push(without_node(alloc, worths)?)?;
+    push_ends(nodes, alloc, leaf, worths)
+}
+
+/// Where there are enough: a full one is absent at the end, or it is present.
+fn enough_tree(alloc: Global, leaf: &Leaf, worths: &Worths<'_>) -> Result<List<Node>, NoMemory>
+    requires states { length leaf.now.states ≡ worths.now.k + 2 }
+    ensures { IfOk result (λ nodes.
+        nodes ≡ tree_of_enough leaf.now worths.now.most worths.now.list.now worths.now.k worths.now.top) }
 {
     let mut nodes = Vec::new(alloc);
-    nodes.push(Node::Open(opened_number(power)))?;
-    nodes.push(Node::Present(power + 1))?;
-    push_twins(&mut nodes, power)?;
-    nodes.push(node(alloc, few(alloc, full, power)?)?)?;
-    nodes.push(converted_node(alloc, power)?)?;
+    nodes.push(Node::Open(opened_number(worths.k)))?;
+    nodes.push(Node::Present(worths.k + 1))?;
+    push_twins(&mut nodes, worths.top)?;
+    push_prefixes(&mut nodes, alloc, leaf, worths)?;
+    nodes.push(converted_node(alloc, worths.k)?)?;
     Ok(List::from_vec(nodes))
 }
 
-/// Where there aren't: 2^k was put together, or was present at the start, or never occurred.
-fn too_few_tree(alloc: Global, enough: u64, power: u16) -> Result<List<Node>, NoMemory>
-    requires enough { enough ≤ 2 ^ POWER_LIMIT }
-    requires power { power ≤ POWER_LIMIT }
-    ensures { IfOk result (λ nodes. nodes ≡ tree_of_few enough power) }
+/// Where there aren't: a full one was made, or started so, or never occurred.
+fn too_few_tree(alloc: Global, worths: &Worths<'_>) -> Result<List<Node>, NoMemory>
+    ensures { IfOk result (λ nodes. nodes ≡ tree_of_few worths.now.list.now worths.now.target worths.now.enough worths.now.k) }
 {
-    let first = first(alloc, power)?;
-    full_tree(alloc, enough, power, first)
-}
-
-fn is_within(power: u16, coef: i64) -> bool
-    requires { power ≤ POWER_LIMIT }
-    ensures { result ≡ nat_le (nat_abs coef) (2 ^ power) }
-{
-    coef.unsigned_abs() <= two_to(u32::from(power))
-}
-
-fn are_within(power: u16, coefs: &[i64]) -> bool
-    requires { power ≤ POWER_LIMIT }
-    ensures { result ≡ list_all (λ a. nat_le (nat_abs a) (2 ^ power)) coefs.now }
-{
-    coefs.iter().all(|coef| is_within(power, *coef))
-}
-
-/// What an agent in 2^k counts for at most.
-#[tactic(auto, using(crate::proofs::Powers::power_small))]
-fn full_size(coefs: &[i64], power: u16) -> u64
-    requires { power ≤ POWER_LIMIT }
-    ensures value { result ≡ full_size_of coefs.now power }
-    ensures small { result ≤ 2 ^ POWER_LIMIT }
-{
-    if are_within(power, coefs) {
-        two_to(u32::from(power))
-    } else {
-        two_to(GREATEST_POWER)
-    }
+    let first = first(alloc, worths)?;
+    full_tree(alloc, worths.enough, worths.k, first)
 }
 
 /// The tree for one value of the predicate, that there are enough or too few.
 pub(crate) fn tree(
     alloc: Global,
     says: bool,
-    coefs: &[i64],
-    enough: u64,
-    power: u16,
+    leaf: &Leaf,
+    worths: &Worths<'_>,
 ) -> Result<List<Node>, NoMemory>
-    requires enough { enough ≤ 2 ^ POWER_LIMIT }
-    requires power { power ≤ POWER_LIMIT }
-    ensures { IfOk result (λ nodes. nodes ≡ flock_tree says (full_size_of coefs.now power) enough power) }
+    requires states { length leaf.now.states ≡ worths.now.k + 2 }
+    ensures { IfOk result (λ nodes. nodes
+        ≡ count_tree says leaf.now worths.now.most worths.now.list.now worths.now.target worths.now.enough worths.now.k
+        worths.now.top) }
 {
     if says {
-        enough_tree(alloc, full_size(coefs, power), power)
+        enough_tree(alloc, leaf, worths)
     } else {
-        too_few_tree(alloc, enough, power)
+        too_few_tree(alloc, worths)
     }
 }

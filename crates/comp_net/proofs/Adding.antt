@@ -9,6 +9,7 @@ use Rattle.pres_ast.specs.PredModel.{PredModel}
 use Rattle.cert_base.specs.declared.proof.LeafProof.{LeafProof}
 use Rattle.cert_base.specs.ValidProof.{ValidLeafProof}
 use Rattle.cert_base.specs.ProofLimits.{IsLeafProofWithin}
+use Rattle.cert_base.specs.TameLayers.{TameLayers}
 use Rattle.comp_trees.specs.BuiltLeaf.{IsBuilt}
 use Rattle.comp_net.specs.declared.choice.NetLeaves.{NetLeaves}
 use Rattle.comp_net.specs.declared.choice.LessLeaf.{LessLeaf}
@@ -29,6 +30,7 @@ built_atom choice helpers atom own pred steps leaf part is own_is tree long step
         valid = subst (λ l. ValidLeafProof l part) leaf_is is.valid;
         within = subst (λ n. IsLeafProofWithin n part) (long ∙ ap (λ (l : LeafModel). length l.inputs) own_is) is.within;
         bound = is.bound ∙ steps_are;
+        tame = subst (λ l. TameLayers l part.layers) leaf_is is.tame;
       };
     }
 

@@ -1,5 +1,5 @@
 -- The compiled net for `x >= 2`, and what is known of all compiled nets.
-use Rattle.std.proofs.Common.{◌≡◌, ◌≢◌, ◌∙◌, ℕ, List, [], ◌∷◌, refl, ap, sym, subst, arith}
+use Rattle.std.proofs.Common.{◌≡◌, ◌≢◌, ◌∙◌, ℕ, List, [], ◌∷◌, length, true, ◌^◌, refl, ap, sym, subst, arith}
 use Rattle.std.specs.Prelude.{ℤ, negsuc, IsTrue}
 use Rattle.std.specs.Fmt.{decimal}
 use Rattle.std.proofs.lemmas.Fmt.{decimal_digit}
@@ -12,14 +12,16 @@ use Rattle.comp_counting.specs.FlockAtoms.{IsFlock, flock_pred_of}
 use Rattle.comp_flock.specs.FlockLeaf.{flock_leaf_of}
 use Rattle.comp_flock.specs.FlockProof.{flock_part}
 use Rattle.comp_flock.proofs.Small.{flock_is_pred}
-use Rattle.comp_flock.proofs.Steps.{steps_are}
-use Rattle.comp_flock.proofs.Valid.{flock-valid, flock-within}
+use Rattle.comp_flock.proofs.Layers.{steps-are}
+use Rattle.comp_flock.proofs.FlockValid.{flock-valid, flock-within}
+use Rattle.comp_trees.proofs.TameKinds.{one_layer-tame}
 use Rattle.comp_net.specs.declared.choice.NetLeaves.TheVariants.{Flocks}
 use Rattle.comp_net.specs.Building.{IsAtomProof}
 use Rattle.comp_net.specs.BuiltNet.{net_of}
 use Rattle.comp_net.specs.AtLeastTwo.{two_leaf, two_net, at_least_two, AtLeastTwoComputes}
 use Rattle.comp_net.specs.declared.choice.LessLeaf.TheVariants.{Flock}
-use Rattle.comp_flock.proofs.SingleMoves.{moves-single}
+use Rattle.comp_flock.specs.FlockLeaf.{power_worths}
+use Rattle.comp_flock.proofs.MoveLists.{moves-single}
 use Rattle.comp_net.proofs.Adding.{less_atom}
 use Rattle.comp_net.proofs.Valid.{net-right}
 
@@ -64,7 +66,7 @@ is_flock = record { some = omega arith; few = omega arith; are = refl; low = ome
 atom_proof : IsAtomProof Flocks 0 at_least_two (flock_part coefs 1)
 atom_proof =
     (less_atom Flocks 0 coefs (negsuc 0) (Flock 1) (flock_pred_of coefs 1) (flock_leaf_of coefs 1) (flock_part coefs 1) refl
-    (record { leaf_is = refl; pred_is = refl; valid = flock-valid coefs 1 is_flock; bound = steps_are 1 (omega arith); within = flock-within coefs 1 is_flock; single = moves-single 1 })
+    (record { leaf_is = refl; pred_is = refl; valid = flock-valid coefs 1 is_flock; bound = steps-are (length (flock_leaf_of coefs 1).moves) 1; within = flock-within coefs 1 is_flock; single = moves-single true (power_worths 1) (2 ^ 1) 1; tame = one_layer-tame (flock_leaf_of coefs 1) (flock_part coefs 1).layers refl })
     refl refl).proof
 
 names_formed : AreNames variable_name variables

@@ -17,9 +17,9 @@ use Rattle.comp_counting.specs.FlockAtoms.{power_of, offset_power, IsOffset}
 use Rattle.comp_counting.specs.declared.limits.TheConstants.{POWER_LIMIT}
 use Rattle.comp_flock.proofs.Offsets.{helpers-most}
 use Rattle.comp_flock.proofs.PowerFound.{IsPower, power_is, IsOffsetPower, offset_power_is}
-use Rattle.comp_prefix.specs.PrefixLeaf.{IsPrefix, prefix_top}
-use Rattle.comp_prefix.proofs.TopFound.{IsTop, top-is, top-low, top-prefix}
-use Rattle.comp_bits.specs.declared.limits.TheConstants.{RANGE_LIMIT}
+use Rattle.comp_flock.specs.PrefixLeaf.{IsPrefix, prefix_top}
+use Rattle.comp_flock.proofs.TopFound.{IsTop, top-is, top-low, top-prefix}
+use Rattle.comp_trees.specs.declared.range.TheConstants.{RANGE_LIMIT}
 use Rattle.comp_powers_leaf.specs.PowersLeaf.{roles, IsPowers}
 use Rattle.comp_powers_leaf.specs.PowersRange.{suffices, powers_range}
 use Rattle.comp_powers_leaf.proofs.RangeFound.{range-suffices}

@@ -7,15 +7,15 @@ use Rattle.std.proofs.lemmas.Bool.{and_parts, leb-true, cases_lt}
 use Rattle.pop_leaf.proofs.Found.{find_some}
 use Rattle.comp_counting.specs.FlockAtoms.{enough_for}
 use Rattle.comp_flock.proofs.PowerFound.{offset_least}
-use Rattle.comp_bits.specs.declared.limits.TheConstants.{RANGE_LIMIT}
+use Rattle.comp_trees.specs.declared.range.TheConstants.{RANGE_LIMIT}
 use Rattle.comp_powers_leaf.specs.PowersRange.{bound_size, suffices}
-use Rattle.comp_bits.proofs.Bits.{some_power}
+use Rattle.comp_trees.proofs.Bits.{some_power}
 use Rattle.comp_powers_leaf.proofs.Building.{states_counted}
-use Rattle.comp_prefix.proofs.Chain.{worths-chain}
-use Rattle.comp_prefix.proofs.TopFound.{top-is}
+use Rattle.comp_flock.proofs.Chain.{worths-chain}
+use Rattle.comp_flock.proofs.TopFound.{top-is}
 use Rattle.comp_net.specs.Smaller.{SmallerLaw, PrefixSmallerLaw}
 
-enough-within : (bound : ℤ) (m : ℕ) → 1 ≤ m → bound_size bound ≤ m → enough_for bound ≤ m
+pub enough-within : (bound : ℤ) (m : ℕ) → 1 ≤ m → bound_size bound ≤ m → enough_for bound ≤ m
 enough-within (pos zero) m some l = some
 enough-within (pos (suc n)) m some l = let e : suc n ≤ m = l in let h : n + 1 ≤ m = omega (arith, e) in h
 enough-within (negsuc n) m some l = l
@@ -29,6 +29,13 @@ flock-smaller coefs bound k range e f =
     let low = (offset_least coefs bound k e).least range within in
     let count = states_counted coefs range in
     omega (arith, low, count)
+
+pub lower : (i j : ℕ) → 2 ^ i ≤ 2 ^ j → i ≤ j
+lower i j l = go (cases_lt j i)
+  where
+    go : (j < i) ⊎ (i ≤ j) → i ≤ j
+    go (inl m) = let p = pow-lt m in absurd (omega (arith, p, l))
+    go (inr m) = m
 
 -- the greatest power up to c is no greater than the range's
 pub prefix-smaller : PrefixSmallerLaw
@@ -44,10 +51,3 @@ prefix-smaller coefs bound top range e f =
     let long = chain.long in
     let few = chain.few in
     omega (arith, low, count, long, few)
-  where
-    lower : (i j : ℕ) → 2 ^ i ≤ 2 ^ j → i ≤ j
-    lower i j l = go (cases_lt j i)
-      where
-        go : (j < i) ⊎ (i ≤ j) → i ≤ j
-        go (inl m) = let p = pow-lt m in absurd (omega (arith, p, l))
-        go (inr m) = m

@@ -14,7 +14,7 @@ use Rattle.comp_net.specs.declared.fault.CompileFault.TheVariants as fault
 use Rattle.comp_net.specs.declared.choice.NetLeaves.{NetLeaves}
 use Rattle.comp_net.specs.Atoms.{atoms, atom_size, has_no_leaf, size_limit, narrow_limit, AreShort, AreBuildable}
 use Rattle.comp_net.specs.CompileFaults.{sizes_of, missing_of, first_missing, first_size_over, first_wide_size, fault_of_sizes, fault_in}
-use Rattle.list_laws.proofs.Lists.{all_front, all_back}
+use Rattle.base_laws.proofs.Lists.{all_front, all_back}
 
 -- an atom with a leaf that isn't too large
 abbrev pub Fits : NetLeaves → PredTree → Type 0

@@ -19,6 +19,8 @@ use Rattle.pres_ast.specs.PredTree.{PredTree, LessThan, Congruent, Negation, Con
 use Rattle.pres_ast.specs.PredModel.{HasAtoms, IsAtomSum, IsPred}
 use Rattle.cert_base.specs.FactsAndCases.{over_count}
 use Rattle.cert_base.specs.declared.proof.LeafProof.{LeafProof}
+use Rattle.cert_base.specs.TameLayers.{TameLayers}
+use Rattle.theory_tame.specs.Laws.{AreTameEach}
 use Rattle.cert_base.specs.ValidProof.{trees, ValidLeafProof, ValidProof}
 use Rattle.cert_base.specs.ProofBound.{layers_bound}
 use Rattle.cert_base.specs.ProofLimits.{IsLeafProofWithin, IsProofWithin}
@@ -32,12 +34,13 @@ use Rattle.comp_remainder.proofs.Formed.{remainder-formed}
 use Rattle.comp_remainder.proofs.SingleMoves.{moves-single as remainder_single}
 use Rattle.comp_counting.specs.FlockAtoms.{enough_for}
 use Rattle.comp_counting.specs.FullState.{flock_start}
-use Rattle.comp_flock.specs.FlockLeaf.{flock_state_name, offset_helpers, offset_helper_count}
-use Rattle.comp_flock.proofs.Formed.{flock-formed, offset-formed}
-use Rattle.comp_flock.proofs.SingleMoves.{moves-single as flock_single}
-use Rattle.comp_prefix.specs.PrefixLeaf.{last_place}
-use Rattle.comp_prefix.proofs.TopFound.{top-low, top-prefix}
-use Rattle.comp_prefix.proofs.Valid.{prefix-right}
+use Rattle.comp_flock.specs.CountLeaf.{count_state_name}
+use Rattle.comp_flock.specs.FlockLeaf.{power_worths, offset_helpers, offset_helper_count}
+use Rattle.comp_flock.proofs.FlockValid.{flock-formed, offset-formed}
+use Rattle.comp_flock.proofs.MoveLists.{moves-single}
+use Rattle.comp_flock.specs.PrefixLeaf.{last_place}
+use Rattle.comp_flock.proofs.TopFound.{top-low, top-prefix}
+use Rattle.comp_flock.proofs.Valid.{prefix-right}
 use Rattle.comp_powers_leaf.specs.declared.role.Role.TheVariants.{Nothing}
 use Rattle.comp_powers_leaf.specs.PowersLeaf.{roles, place, start_of, coefficient_of, lacking, bit_role, helper_roles, all_helper_roles, state_name_at}
 use Rattle.comp_powers_leaf.proofs.RangeFound.{range-suffices}
@@ -99,8 +102,8 @@ less_built choice helpers coefs bound (Flock k) is sum some few enough most none
       formed = flock-formed coefs k (record { some = sum.some; few = sum.few; are = found.are; low = found.low; high = found.high });
       inputs = length-map coefs (flock_start (2 ^ k) k);
       helped = sym (none is.0);
-      narrow = λ l. le-ltb NARROW_STATE_LIMIT _ (let high = found.high in omega (arith, length-map-range_with_len flock_state_name 0 (k + 2), high));
-      single = flock_single k;
+      narrow = λ l. le-ltb NARROW_STATE_LIMIT _ (let high = found.high in omega (arith, length-map-range_with_len (count_state_name (power_worths k)) 0 (k + 2), high));
+      single = moves-single true (power_worths k) (2 ^ k) k;
     }
 less_built choice helpers coefs bound (Offset k) is sum some few enough most none =
     let spare = helpers - offset_helper_count bound k in
@@ -110,8 +113,8 @@ less_built choice helpers coefs bound (Offset k) is sum some few enough most non
       formed = offset-formed coefs bound k spare (record { sum = sum; are = is.are; high = is.high; within = is.within }) (let room : offset_helper_count bound k + spare ≤ HELPER_LIMIT = omega (arith, enough, most) in room);
       inputs = length-map coefs (flock_start (enough_for bound) k);
       helped = (let h : length (offset_helpers bound k ++ replicate spare 0) ≡ helpers = omega (arith, held, more, enough) in h);
-      narrow = λ l. le-ltb NARROW_STATE_LIMIT _ (let high = is.high in omega (arith, length-map-range_with_len flock_state_name 0 (k + 2), high));
-      single = flock_single k;
+      narrow = λ l. le-ltb NARROW_STATE_LIMIT _ (let high = is.high in omega (arith, length-map-range_with_len (count_state_name (power_worths k)) 0 (k + 2), high));
+      single = moves-single true (power_worths k) (2 ^ k) k;
     }
 less_built choice helpers coefs bound (Prefix top) is sum some few enough most none =
     let one = top-prefix coefs bound top sum is.1 in
@@ -199,6 +202,18 @@ parts-valid choice helpers (a ∷ xs) [] h i leaf part e f = absurd h
 parts-valid choice helpers (a ∷ xs) (p ∷ parts) h zero leaf part e f =
     subst (λ l. ValidLeafProof l part) (same_Some _ _ e) (subst (ValidLeafProof (leaf_of choice helpers a)) (same_Some _ _ f) h.0.valid)
 parts-valid choice helpers (a ∷ xs) (p ∷ parts) h (suc i) leaf part e f = parts-valid choice helpers xs parts h.1 i leaf part e f
+
+-- the layers of each leaf are tame
+parts-tame : (choice : NetLeaves) (helpers : ℕ) (xs : List PredTree) (parts : List LeafProof) → AreAtomProofs choice helpers xs parts → (i : ℕ) (leaf : LeafModel) (part : LeafProof) → slice_get (map (leaf_of choice helpers) xs) i ≡ Some leaf → slice_get parts i ≡ Some part → TameLayers leaf part.layers
+parts-tame choice helpers [] [] h i leaf part e f = cc
+parts-tame choice helpers [] (p ∷ parts) h i leaf part e f = absurd h
+parts-tame choice helpers (a ∷ xs) [] h i leaf part e f = absurd h
+parts-tame choice helpers (a ∷ xs) (p ∷ parts) h zero leaf part e f =
+    subst (λ l. TameLayers l part.layers) (same_Some _ _ e) (subst (λ (q : LeafProof). TameLayers (leaf_of choice helpers a) q.layers) (same_Some _ _ f) h.0.tame)
+parts-tame choice helpers (a ∷ xs) (p ∷ parts) h (suc i) leaf part e f = parts-tame choice helpers xs parts h.1 i leaf part e f
+
+pub net-tame : (choice : NetLeaves) (names : List (List ℕ)) (tree : PredTree) (parts : List LeafProof) → AreAtomProofs choice (most_helpers choice tree) (atoms tree) parts → AreTameEach (net_of choice names tree) (record { leaves = parts })
+net-tame choice names tree parts h = parts-tame choice (most_helpers choice tree) (atoms tree) parts h
 
 parts-within : (choice : NetLeaves) (helpers : ℕ) (n : ℕ) (xs : List PredTree) (parts : List LeafProof) → AreAtomProofs choice helpers xs parts → All (IsBuilt choice helpers n) xs → All (IsLeafProofWithin n) parts
 parts-within choice helpers n [] [] h built = All-nil (IsLeafProofWithin n)

@@ -14,7 +14,7 @@ use Rattle.comp_remainder.specs.RemainderLeaf.{remainder_state_count}
 use Rattle.comp_counting.specs.FlockAtoms.{power_of, offset_power}
 use Rattle.comp_counting.specs.FullState.{flock_state_count}
 use Rattle.comp_flock.specs.FlockLeaf.{offset_helper_count}
-use Rattle.comp_prefix.specs.PrefixLeaf.{prefix_top, bound_worths}
+use Rattle.comp_flock.specs.PrefixLeaf.{prefix_top, bound_worths}
 use Rattle.comp_powers_leaf.specs.PowersLeaf.{roles, powers_helper_count}
 use Rattle.comp_powers_leaf.specs.PowersRange.{powers_range}
 use Rattle.comp_net.specs.declared.limits.TheConstants.{NARROW_WIDTH_LIMIT}

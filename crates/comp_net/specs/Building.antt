@@ -7,6 +7,7 @@ use Rattle.cert_base.specs.declared.proof.LeafProof.{LeafProof}
 use Rattle.cert_base.specs.ProofBound.{layers_bound}
 use Rattle.cert_base.specs.ValidProof.{ValidLeafProof}
 use Rattle.cert_base.specs.ProofLimits.{IsLeafProofWithin}
+use Rattle.cert_base.specs.TameLayers.{TameLayers}
 use Rattle.comp_net.specs.declared.choice.NetLeaves.{NetLeaves}
 use Rattle.comp_net.specs.declared.building.Built.{Built}
 use Rattle.comp_net.specs.Atoms.{atoms, postfix}
@@ -19,6 +20,7 @@ pub record IsAtomProof (choice : NetLeaves) (helpers : ℕ) (atom : PredTree) (p
   pub valid : ValidLeafProof (leaf_of choice helpers atom) part
   pub within : IsLeafProofWithin (length (leaf_of choice helpers atom).inputs) part
   pub bound : layers_bound part.layers ≡ atom_steps choice atom
+  pub tame : TameLayers (leaf_of choice helpers atom) part.layers
 
 -- an atom's leaf, and a valid proof for it
 pub record IsAtom (choice : NetLeaves) (helpers : ℕ) (atom : PredTree) (leaf : LeafModel) (part : LeafProof)

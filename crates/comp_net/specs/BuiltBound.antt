@@ -4,7 +4,7 @@ use Rattle.pres_ast.specs.PredTree.{PredTree, LessThan, Congruent, Negation, Con
 use Rattle.comp_threshold.specs.Built.{threshold_steps}
 use Rattle.comp_remainder.specs.RemainderProof.{remainder_steps}
 use Rattle.comp_counting.specs.FullState.{flock_steps, offset_steps}
-use Rattle.comp_prefix.specs.PrefixLeaf.{last_place}
+use Rattle.comp_flock.specs.PrefixLeaf.{last_place}
 use Rattle.comp_powers.specs.PowersProof.{powers_steps}
 use Rattle.comp_net.specs.Atoms.{atoms, less_leaf_for, leaves_for}
 use Rattle.comp_net.specs.declared.choice.LeafChoice.{LeafChoice}

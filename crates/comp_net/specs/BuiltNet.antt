@@ -6,7 +6,7 @@ use Rattle.pres_ast.specs.PredTree.{PredTree, LessThan, Congruent, Negation, Con
 use Rattle.comp_threshold.specs.ThresholdLeaf.{threshold_leaf_of}
 use Rattle.comp_remainder.specs.RemainderLeaf.{remainder_leaf_of}
 use Rattle.comp_flock.specs.FlockLeaf.{flock_leaf_of, offset_leaf_of, offset_helper_count}
-use Rattle.comp_prefix.specs.PrefixLeaf.{prefix_leaf_of}
+use Rattle.comp_flock.specs.PrefixLeaf.{prefix_leaf_of}
 use Rattle.comp_powers_leaf.specs.PowersLeaf.{powers_leaf_of, powers_helper_count}
 use Rattle.comp_net.specs.Atoms.{atoms, postfix, less_leaf_for, most_helpers, leaves_for}
 use Rattle.comp_net.specs.declared.choice.LeafChoice.{LeafChoice}

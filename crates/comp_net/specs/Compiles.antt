@@ -10,6 +10,7 @@ use Rattle.cert_base.specs.ProofBound.{proof_bound}
 use Rattle.cert_base.specs.ProofLimits.{IsProofWithin}
 use Rattle.cert_base.specs.ValidProof.{ValidProof}
 use Rattle.pop_checker.specs.Sound.{IsRight}
+use Rattle.theory_tame.specs.Laws.{AreTameEach}
 use Rattle.comp_net.specs.declared.choice.LeafChoice.{LeafChoice}
 use Rattle.comp_net.specs.declared.fault.CompileFault.{CompileFault}
 use Rattle.comp_net.specs.BuiltNet.{net_with}
@@ -31,5 +32,8 @@ pub record Compiles (choice : LeafChoice) (names : List (List ℕ)) (pred : Pred
   pub single : IfOk result (λ both. IsSingle both.0)
   -- the net computes the predicate, and can be led to its end by meetings
   pub right : IfOk result (λ both. IsRight both.0 pred both.1)
+  -- the layers of its leaves are tame: so, by `right`, random meetings settle n agents within k * n * n * (n - 1) / 2
+  -- meetings on average, where k is the bound
+  pub tame : IfOk result (λ both. AreTameEach both.0 both.1)
   pub accepted : IfOk result (λ both. fault_with choice pred.tree ≡ None)
   pub refused : IfFault result (RefusesWith choice pred.tree)

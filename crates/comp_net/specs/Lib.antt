@@ -6,3 +6,4 @@ pub mod Building
 pub mod Compiles
 pub mod AtLeastTwo
 pub mod Smaller
+pub mod FewStates

@@ -2,7 +2,7 @@
 use Rattle.std.specs.Prelude.{◌≡◌, ◌<◌, ℕ, List, ℤ, length, Some}
 use Rattle.comp_counting.specs.FlockAtoms.{offset_power}
 use Rattle.comp_counting.specs.FullState.{flock_state_count}
-use Rattle.comp_prefix.specs.PrefixLeaf.{prefix_top, bound_worths}
+use Rattle.comp_flock.specs.PrefixLeaf.{prefix_top, bound_worths}
 use Rattle.comp_powers_leaf.specs.PowersLeaf.{roles}
 use Rattle.comp_powers_leaf.specs.PowersRange.{powers_range}
 

@@ -13,6 +13,7 @@ ghost use Rattle.cert_base.specs.ProofBound.{proof_bound};
 ghost use Rattle.cert_base.specs.ProofLimits.{IsProofWithin};
 ghost use Rattle.cert_base.specs.ValidProof.{ValidProof};
 ghost use Rattle.pop_checker.specs.Sound.{IsRight};
+ghost use Rattle.theory_tame.specs.Laws.{AreTameEach};
 ghost use Rattle.comp_net.specs.Atoms.{atoms, most_helpers, AreBuildable};
 ghost use Rattle.comp_threshold.specs.declared.limits.TheConstants.{WIDTH_LIMIT};
 ghost use Rattle.comp_threshold.specs.ThresholdLeaf.{threshold_width};
@@ -25,9 +26,8 @@ ghost use Rattle.comp_net.specs.CompileFaults.{fault_in};
 use crate::choice::{LessLeaf, NetLeaves, less_leaf};
 use crate::helpers::count_helpers;
 use cert_base::{LeafProof, Proof};
-use comp_flock::{flock, offset_flock, offset_helper_count};
+use comp_flock::{flock, offset_flock, offset_helper_count, prefix_flock};
 use comp_powers::powers;
-use comp_prefix::prefix_flock;
 use comp_remainder::remainder;
 use comp_threshold::{ThresholdFault, threshold};
 use pop_io::{Failure, List, NoMemory, Text};
@@ -201,6 +201,7 @@ pub(crate) fn build(
     ensures preds { IfOk result (λ both. All (λ part. IsPred pred.now.variables part.pred.tree) both.1.leaves) }
     ensures single { IfOk result (λ both. IsSingle both.0) }
     ensures right { IfOk result (λ both. IsRight both.0 pred.now both.1) }
+    ensures tame { IfOk result (λ both. AreTameEach both.0 both.1) }
 {
     let mut built = Built {
         leaves: Vec::new(alloc),

@@ -7,9 +7,8 @@ ghost use Rattle.pres_ast.specs.PredTree.{LessThan};
 ghost use Rattle.pres_ast.specs.TreeOf.{tree_of};
 
 use crate::limits::NARROW_WIDTH_LIMIT;
-use comp_flock::{flock_power, offset_power};
+use comp_flock::{flock_power, offset_power, prefix_top};
 use comp_powers::powers_range;
-use comp_prefix::prefix_top;
 use comp_threshold::WIDTH_LIMIT;
 use pop_net::{NARROW_STATE_LIMIT, STATE_LIMIT};
 use pres_ast::Tree;
@@ -19,9 +18,13 @@ use pres_ast::Tree;
 pub enum LeafChoice {
     /// Those of thresholds and remainders.
     Plain,
-    /// That of a flock for a flock atom, and the plain ones for all others.
+    /// That of a flock for a flock atom, which says that a sum of variables is at least 2^k: it has k + 2 states and no
+    /// width. The plain ones for all others.
     Flocks,
-    /// Those with few states.
+    /// Those with O(log s) states for an atom whose greatest number is s. If each atom counts its agents (`prefix_top`)
+    /// or is a remainder, the net has no helpers, and an atom that counts its agents has the leaf of a flock of
+    /// prefixes. Otherwise such an atom has the leaf of a flock with an offset, and any other atom `Less` one of powers.
+    /// All leaves have as many helpers as the one that needs most.
     Succinct,
 }
 

@@ -10,8 +10,8 @@ ghost use Rattle.comp_net.specs.CompileFaults.{first_missing, first_size_over, f
 use crate::choice::{LessLeaf, NetLeaves, greatest_narrow_size, greatest_size, less_leaf};
 use crate::fault::CompileFault;
 use crate::limits::COUNT_LIMIT;
+use comp_flock::prefix_states;
 use comp_powers::powers_states;
-use comp_prefix::prefix_states;
 use comp_threshold::width;
 use pop_io::{NoMemory, VARIABLE_LIMIT};
 use pop_net::{LEAF_LIMIT, WIDE_LEAF_LIMIT};

@@ -10,6 +10,7 @@ ghost use Rattle.cert_base.specs.ProofBound.{proof_bound};
 ghost use Rattle.cert_base.specs.ProofLimits.{IsProofWithin};
 ghost use Rattle.cert_base.specs.ValidProof.{ValidProof};
 ghost use Rattle.pop_checker.specs.Sound.{IsRight};
+ghost use Rattle.theory_tame.specs.Laws.{AreTameEach};
 ghost use Rattle.comp_net.specs.BuiltNet.{net_of};
 ghost use Rattle.comp_net.specs.BuiltBound.{bound_in};
 ghost use Rattle.comp_net.specs.CompileFaults.{fault_in, RefusesIn};
@@ -42,6 +43,7 @@ fn compile_by(
     ensures preds { IfOk result (λ both. All (λ part. IsPred pred.now.variables part.pred.tree) both.1.leaves) }
     ensures single { IfOk result (λ both. IsSingle both.0) }
     ensures right { IfOk result (λ both. IsRight both.0 pred.now both.1) }
+    ensures tame { IfOk result (λ both. AreTameEach both.0 both.1) }
     ensures accepted { IfOk result (λ both. fault_in leaves pred.now.tree ≡ None) }
     ensures refused { IfFault result (RefusesIn leaves pred.now.tree) }
 {
@@ -51,8 +53,9 @@ fn compile_by(
     Ok(build(alloc, leaves, pred, names)?)
 }
 
-/// The built net with the leaves that are asked for, and its proof.
-fn compile_with(
+/// The built net over these names, with the leaves that are asked for, and a valid proof that it computes the
+/// predicate. Whether there is one is known before anything is built.
+pub fn compile_with(
     alloc: Global,
     choice: LeafChoice,
     pred: &Pred,
@@ -66,8 +69,7 @@ fn compile_with(
     compile_by(alloc, leaves, pred, names)
 }
 
-/// The built net over these names, and a valid proof that it computes the predicate. Whether there is one is known
-/// before anything is built.
+/// As `compile_with`, with the plain leaves.
 pub fn compile(
     alloc: Global,
     pred: &Pred,
@@ -80,8 +82,7 @@ pub fn compile(
     compile_with(alloc, LeafChoice::Plain, pred, names)
 }
 
-/// As `compile`, but each flock atom, which says that a sum of variables is at least 2^k, has a leaf of k + 2 states
-/// and no width.
+/// As `compile_with`, with the leaves of flocks.
 pub fn compile_flocks(
     alloc: Global,
     pred: &Pred,
@@ -92,20 +93,4 @@ pub fn compile_flocks(
     ensures { Compiles LeafChoice.Flocks names.now pred.now result }
 {
     compile_with(alloc, LeafChoice::Flocks, pred, names)
-}
-
-/// As `compile`, but with O(log s) states for an atom whose greatest number is s. If each atom counts its agents
-/// (`prefix_top`) or is a remainder, the net has no helpers, and an atom that counts its agents has the leaf of a flock
-/// of prefixes. Otherwise such an atom has the leaf of a flock with an offset, and any other atom `Less` one of powers.
-/// All leaves have as many helpers as the one that needs most.
-pub fn compile_succinct(
-    alloc: Global,
-    pred: &Pred,
-    names: &List<Text>,
-) -> Result<(Net, Proof), Failure<CompileFault>>
-    requires formed { AreNames variable_name names.now }
-    requires count { length names.now ≡ pred.now.variables }
-    ensures { Compiles LeafChoice.Succinct names.now pred.now result }
-{
-    compile_with(alloc, LeafChoice::Succinct, pred, names)
 }

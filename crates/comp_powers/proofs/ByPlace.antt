@@ -5,8 +5,8 @@ use Rattle.std.specs.List.{range_with_len}
 use Rattle.std.proofs.lemmas.Option.{slice_get-get_or}
 use Rattle.std.proofs.lemmas.List.{length-map, get_or-map}
 use Rattle.std.proofs.lemmas.List.FromFn.{length-map-range_with_len}
-use Rattle.list_laws.proofs.Lists.{same_lists}
-use Rattle.list_laws.proofs.Ranges.{get-range}
+use Rattle.base_laws.proofs.Lists.{same_lists}
+use Rattle.base_laws.proofs.Ranges.{get-range}
 
 pub map_at : {A B : Type 0} (f : A → B) (xs : List A) (d : A) → map (λ q. f (get_or xs q d)) (range_with_len 0 (length xs)) ≡ map f xs
 map_at f xs d =

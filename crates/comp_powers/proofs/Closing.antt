@@ -18,7 +18,7 @@ use Rattle.cert_base.specs.FactsAndCases.{states_of, flow, base_list, two_agents
 use Rattle.cert_base.specs.Closes.{cases_of, ClosesUnder, refuted, by_cases, no_case, next_case, Closes}
 use Rattle.cert_base.specs.ValidProof.{ValidLeafProof}
 use Rattle.comp_trees.specs.LeaderTree.{weighed_node, company_of}
-use Rattle.list_laws.proofs.Lists.{at_end}
+use Rattle.base_laws.proofs.Lists.{at_end}
 use Rattle.comp_powers_leaf.specs.declared.role.Role.TheVariants.{Piece}
 use Rattle.comp_powers_leaf.specs.PowersLeaf.{place, roles, powers_leaf_of, IsPowers, HasRoom}
 use Rattle.comp_powers_leaf.proofs.Moves.{fixed-first}

@@ -22,6 +22,10 @@ use Rattle.comp_powers_leaf.proofs.Kept.{weight_in, Lowers, weight-lowered, kind
 use Rattle.comp_powers_leaf.proofs.Meets.{second-fixed}
 use Rattle.comp_powers_leaf.proofs.Formed.{states-long}
 use Rattle.comp_powers.specs.PowersProof.{powers_layers_of}
+use Rattle.cert_base.specs.TameLayers.{IsNoHigher, TameLayers}
+use Rattle.comp_trees.proofs.TameKinds.{IsParted, AreTameKinds, sorted_layers-tame}
+use Rattle.comp_trees.proofs.LeaderTame.{firsts_beside}
+use Rattle.comp_powers_leaf.proofs.Single.{moves-single}
 
 -- ---- answers
 
@@ -275,11 +279,11 @@ module _ (coefs : List ℤ) (k : ℕ) where
   kind = powers_kind coefs k
 
   abbrev WasEnabled : Move → Move → Type 0
-  WasEnabled t u = (v : Move) × Contains (powers_moves coefs k) v × (silent_move v ≡ false) × (kind v < kind t) × IsEnabledBefore v t u
+  WasEnabled t u = (v : Move) × Contains (powers_moves coefs k) v × (silent_move v ≡ false) × (kind v ≤ kind u) × IsEnabledBefore v t u
 
-  by_move : (t u : Move) (x y : ℕ) → 0 < kind t → (h : HasMove x y) → IsEnabledBefore h.move t u → WasEnabled t u
-  by_move t u x y l h before =
-      (h.move, h.there, All-contains (λ t. silent_move t ≡ false) (powers_moves coefs k) h.move (all_loud coefs k) h.there, (let e = h.first in let m : kind h.move < kind t = omega (arith, e, l) in m), before)
+  by_move : (t u : Move) (x y : ℕ) → (h : HasMove x y) → IsEnabledBefore h.move t u → WasEnabled t u
+  by_move t u x y h before =
+      (h.move, h.there, All-contains (λ t. silent_move t ≡ false) (powers_moves coefs k) h.move (all_loud coefs k) h.there, (let e = h.first in let m : kind h.move ≤ kind u = omega (arith, e) in m), before)
 
   wakes : (t u : Move) → Contains (powers_moves coefs k) t → Contains (powers_moves coefs k) u → silent_move t ≡ false → silent_move u ≡ false → kind u < kind t → WasEnabled t u
   wakes t u ct cu lt lu l = go (cases_eq u.q t.s) (cases_eq u.p t.s)
@@ -312,7 +316,7 @@ module _ (coefs : List ℤ) (k : ℕ) where
           let react = All-contains (ByRoles coefs k TurnsSecond) (powers_moves coefs k) u (each_by_roles coefs k TurnsSecond turns_second) cu zero_kind answer in
           let turned : other (at u.q) ≡ at t.q = ap (λ q. other (at q)) e ∙ turn.turned in
           let h = react-move u.p t.q below_u.0 below_t.1 (subst (λ r. React (at u.p) r) turned react) in
-          by_move t u u.p t.q later h (second_before t u h.move stays e h.pair)
+          by_move t u u.p t.q h (second_before t u h.move stays e h.pair)
       second e (inr more) =
           let most = kind-below coefs k (at t.p) (at t.q) in
           let turn_u = All-contains (ByRoles coefs k Turns) (powers_moves coefs k) u (each_by_roles coefs k Turns turns) cu more in
@@ -320,7 +324,7 @@ module _ (coefs : List ℤ) (k : ℕ) where
           let up = turn_u.up (omega (arith, l, more, most)) in
           let ne : u.p ≢ t.p = λ f. up-apart (at t.p) (at u.p) down up (ap at f) in
           let h = react-move t.p u.p below_t.0 below_u.0 (down-up (at t.p) (at u.p) down up) in
-          by_move t u t.p u.p later h (turners_before t u h.move stays e ne h.pair)
+          by_move t u t.p u.p h (turners_before t u h.move stays e ne h.pair)
 
       first : u.p ≡ t.s → (kind u ≡ 0) ⊎ (0 < kind u) → WasEnabled t u
       first e (inl zero_kind) =
@@ -328,7 +332,7 @@ module _ (coefs : List ℤ) (k : ℕ) where
           let react = All-contains (ByRoles coefs k TurnsFirst) (powers_moves coefs k) u (each_by_roles coefs k TurnsFirst turns_first) cu answer in
           let turned : other (at u.p) ≡ at t.q = ap (λ q. other (at q)) e ∙ turn.turned in
           let h = react-move t.q u.q below_t.1 below_u.1 (subst (λ r. React r (at u.q)) turned react) in
-          by_move t u t.q u.q later h (first_before t u h.move stays e h.pair)
+          by_move t u t.q u.q h (first_before t u h.move stays e h.pair)
       first e (inr more) =
           let most = kind-below coefs k (at t.p) (at t.q) in
           let turn_u = All-contains (ByRoles coefs k Turns) (powers_moves coefs k) u (each_by_roles coefs k Turns turns) cu more in
@@ -338,7 +342,7 @@ module _ (coefs : List ℤ) (k : ℕ) where
       go : (u.q ≡ t.s) ⊎ (u.q ≡ t.s → ⊥) → (u.p ≡ t.s) ⊎ (u.p ≡ t.s → ⊥) → WasEnabled t u
       go (inl e) o = second e (zero_or (kind u))
       go (inr n) (inl e) = first e (zero_or (kind u))
-      go (inr n) (inr m) = (u, cu, lu, l, same_before t u stays (λ e. m (sym e)) (λ e. n (sym e)))
+      go (inr n) (inr m) = (u, cu, lu, (let f : kind u ≤ kind u = omega arith in f), same_before t u stays (λ e. m (sym e)) (λ e. n (sym e)))
 
   -- ---- the weights
 
@@ -383,3 +387,70 @@ module _ (coefs : List ℤ) (bound : ℤ) (k spare : ℕ) where
 
   pub layers-valid : ValidLayers leaf (powers_layers_of coefs k)
   layers-valid = sorted_layers-valid leaf (powers_kind coefs k) (powers_weights coefs k) are_kinds
+
+  -- ---- the layers are tame
+
+  -- a turn keeps the sum
+  abbrev Still : Role → Role → Role → Role → Type 0
+  Still p q r s = 0 < kind_by p q → sum_weight k r + sum_weight k s ≤ sum_weight k p + sum_weight k q
+
+  still : OfEachRow coefs k Still
+  still = record {
+    join = λ i b c e l. absurd (omega (arith, l));
+    pay = λ j i b h l. absurd (omega (arith, l));
+    pay_plus = λ j l. absurd (omega (arith, l));
+    pay_hub = λ j l. absurd (omega (arith, l));
+    give = λ j i b e l. absurd (omega (arith, l));
+    pass = λ j i b e l. absurd (omega (arith, l));
+    plus_hub = λ l. absurd (omega (arith, l));
+    merge = λ l. absurd (omega (arith, l));
+    low_nothing = λ l. omega arith;
+    low_piece = λ i l. omega arith;
+    debtor_nothing = λ j l. omega arith;
+    high_nothing = λ l. omega arith;
+    high_piece = λ i l. omega arith;
+    plus_nothing = λ l. omega arith;
+  }
+
+  turn_of : (t : Move) → Contains leaf.moves t → 0 < powers_kind coefs k t → IsTurn coefs k (role_at coefs k t.p) (role_at coefs k t.q) (role_at coefs k t.r) (role_at coefs k t.s)
+  turn_of t c l = All-contains (ByRoles coefs k (Turns coefs k)) leaf.moves t (each_by_roles coefs k (Turns coefs k) (turns coefs k)) c l
+
+  below : (t : Move) → Contains leaf.moves t → IsMoveBelow (length (roles coefs k)) t
+  below t c = All-contains (IsMoveBelow (length (roles coefs k))) leaf.moves t (moves-below coefs k) c
+
+  no_higher : (u : Move) → Contains leaf.moves u → 0 < powers_kind coefs k u → IsNoHigher (get_or (powers_weights coefs k) 0 []) u
+  no_higher u c l =
+      let in_range = below u c in
+      let low = All-contains (ByRoles coefs k Still) leaf.moves u (each_by_roles coefs k Still still) c l in
+      let p = weight-is coefs k 0 u.p (omega arith) in_range.0 in
+      let q = weight-is coefs k 0 u.q (omega arith) in_range.1 in
+      let r = weight-is coefs k 0 u.r (omega arith) in_range.2 in
+      let s = weight-is coefs k 0 u.s (omega arith) in_range.3 in
+      omega (arith, ints, p, q, r, s, low)
+
+  kept : (t u : Move) (n : ℕ) → powers_kind coefs k t ≡ n → Contains leaf.moves t → Contains leaf.moves u → powers_kind coefs k t < powers_kind coefs k u → IsNoHigher (get_or (powers_weights coefs k) (powers_kind coefs k t) []) u ⊎ IsParted leaf (powers_kind coefs k) t u
+  kept t u zero e ct cu l = inl (subst (λ n. IsNoHigher (get_or (powers_weights coefs k) n []) u) (sym e) (no_higher u cu (omega (arith, l))))
+  kept t u (suc n) e ct cu l =
+      let most = kind-below coefs k (role_at coefs k u.p) (role_at coefs k u.q) in
+      let one : powers_kind coefs k t ≡ 1 = omega (arith, e, l, most) in
+      let two : powers_kind coefs k u ≡ 2 = omega (arith, e, l, most) in
+      let up = (turn_of t ct (omega (arith, one))).up one in
+      let down = (turn_of u cu (omega (arith, two))).down two in
+      let ne : u.p ≢ t.p = λ f. up-apart (role_at coefs k u.p) (role_at coefs k t.p) down up (ap (role_at coefs k) (sym f)) in
+      let h = react-move coefs k u.p t.p (below u cu).0 (below t ct).0 (down-up coefs k (role_at coefs k u.p) (role_at coefs k t.p) down up) in
+      inr (record {
+        by = h.move;
+        listed = h.there;
+        loud = All-contains (λ t. silent_move t ≡ false) leaf.moves h.move (all_loud coefs k) h.there;
+        earlier = (let first = h.first in let m : powers_kind coefs k h.move < powers_kind coefs k t = omega (arith, first, one) in m);
+        beside = firsts_beside t u h.move ne (elim h.pair [ inl x ↦ inr x | inr x ↦ inl x ]);
+      })
+
+  are_tame : AreTameKinds leaf (powers_kind coefs k) (powers_weights coefs k)
+  are_tame = record {
+    single = moves-single coefs k;
+    no_rise = λ t u ct cu lt lu l. kept t u (powers_kind coefs k t) refl ct cu l;
+  }
+
+  pub layers-tame : TameLayers leaf (powers_layers_of coefs k)
+  layers-tame = sorted_layers-tame leaf (powers_kind coefs k) (powers_weights coefs k) are_kinds are_tame

@@ -25,7 +25,7 @@ use Rattle.comp_trees.proofs.LeaderEnds.{absent-at, shifted, rules_out, is_wrong
 use Rattle.comp_powers_leaf.specs.declared.role.Role.{Role}
 use Rattle.comp_powers_leaf.specs.declared.role.Role.TheVariants.{Low, High, Nothing, Piece, Plus, Debtor, Token}
 use Rattle.comp_powers_leaf.specs.PowersLeaf.{coefficient_of, worth, says, roles, role_at, place, start_of, all_helper_roles, powers_leaf_of, IsPowers, HasRoom}
-use Rattle.comp_bits.proofs.Bits.{double}
+use Rattle.comp_trees.proofs.Bits.{double}
 use Rattle.comp_powers_leaf.proofs.Places.{there, role-valid, place-role}
 use Rattle.comp_powers_leaf.specs.PowersLeaf.{IsRole}
 use Rattle.comp_powers_leaf.proofs.Moves.{ByRoles, fixed-first}

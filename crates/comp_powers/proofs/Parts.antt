@@ -12,7 +12,7 @@ use Rattle.cert_base.specs.declared.proof.LeafProof.{LeafProof}
 use Rattle.cert_base.specs.ValidProof.{ValidLeafProof}
 use Rattle.comp_powers_leaf.specs.declared.role.Role.{Role}
 use Rattle.comp_powers_leaf.specs.PowersLeaf.{roles, powers_leaf_of, IsPowers, HasRoom}
-use Rattle.comp_bits.proofs.Bits.{power-le}
+use Rattle.comp_trees.proofs.Bits.{power-le}
 use Rattle.comp_powers_leaf.proofs.Formed.{range_of, states-long}
 use Rattle.comp_powers.specs.PowersProof.{AreStates, powers_layers_of, powers_tree, powers_pred_of, powers_part}
 use Rattle.comp_powers.proofs.Closing.{powers-valid}

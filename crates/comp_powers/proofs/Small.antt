@@ -4,11 +4,11 @@ use Rattle.std.specs.Prelude.{ℤ, pos, negsuc, neg_ℤ, ◌-ℤ◌, nat_abs}
 use Rattle.std.proofs.lemmas.Int.{ints, to_z-of_z, fits_signed_from_abs}
 use Rattle.std.proofs.lemmas.Nat.{mod_below}
 use Rattle.cert_base.specs.ProofLimits.{IsSmall}
-use Rattle.list_laws.proofs.Numbers.{size-neg}
+use Rattle.base_laws.proofs.Numbers.{size-neg}
 use Rattle.comp_powers_leaf.specs.declared.role.Role.{Role}
 use Rattle.comp_powers_leaf.specs.declared.role.Role.TheVariants.{Low, High, Nothing, Piece, Plus, Debtor, Token}
 use Rattle.comp_powers_leaf.specs.PowersLeaf.{coefficient_of, owed, worth, IsRole, HasRange}
-use Rattle.comp_bits.proofs.Bits.{power-le, some_power}
+use Rattle.comp_trees.proofs.Bits.{power-le, some_power}
 use Rattle.comp_powers_leaf.proofs.Moves.{chain-most}
 use Rattle.comp_powers.specs.PowersProof.{credit}
 

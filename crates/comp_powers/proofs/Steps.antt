@@ -11,7 +11,7 @@ use Rattle.comp_trees.specs.SortedLayers.{sorted_layer}
 use Rattle.comp_trees.proofs.ThreeLayers.{three_layers}
 use Rattle.comp_powers_leaf.specs.declared.role.Role.{Role}
 use Rattle.comp_powers_leaf.specs.declared.role.Role.TheVariants.{Low, High, Nothing, Piece, Plus, Debtor, Token}
-use Rattle.comp_bits.specs.Bits.{power_in}
+use Rattle.comp_trees.specs.Bits.{power_in}
 use Rattle.comp_powers_leaf.specs.PowersLeaf.{coefficient_of, chain_by, chain_of, roles, role_at, place, powers_moves, IsRole}
 use Rattle.comp_powers_leaf.specs.PowersLayers.{sum_weight, answer_weight, one_if, layer_weights, powers_kind}
 use Rattle.comp_powers_leaf.proofs.Places.{there, role-valid}

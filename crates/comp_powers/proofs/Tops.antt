@@ -20,7 +20,7 @@ use Rattle.cert_base.proofs.WeightedSums.{weighted_sum-append, weighted_sum-zero
 use Rattle.comp_trees.proofs.LeaderEnds.{absent-at, shifted, is_wrong}
 use Rattle.comp_trees.proofs.TakenMoves.{taken-before, taken-move, taken-past}
 use Rattle.comp_trees.proofs.TrapNodes.{states-state, states-input, states-past}
-use Rattle.list_laws.proofs.Numbers.{same_turned}
+use Rattle.base_laws.proofs.Numbers.{same_turned}
 use Rattle.comp_powers_leaf.specs.declared.role.Role.{Role}
 use Rattle.comp_powers_leaf.specs.declared.role.Role.TheVariants.{Low, High, Nothing, Piece, Plus, Debtor, Token}
 use Rattle.comp_powers_leaf.specs.PowersLeaf.{roles, role_at, place, second, bit_role, lacking, hub_of, IsPowers, HasRoom}

@@ -15,7 +15,7 @@ use Rattle.cert_base.proofs.Indicators.{all_places}
 use Rattle.comp_trees.specs.SortedLayers.{sorted_layer}
 use Rattle.comp_trees.specs.LeaderTree.{weighed_node, company_of}
 use Rattle.comp_trees.proofs.Limits.{weighed-within, all-zeros, one}
-use Rattle.list_laws.proofs.Ranges.{all_range}
+use Rattle.base_laws.proofs.Ranges.{all_range}
 use Rattle.comp_powers_leaf.specs.declared.role.Role.{Role}
 use Rattle.comp_powers_leaf.specs.declared.role.Role.TheVariants.{Low, High, Nothing, Piece, Plus, Debtor, Token}
 use Rattle.comp_powers_leaf.specs.PowersLeaf.{coefficient_of, worth, roles, role_at, place, powers_moves, powers_leaf_of, IsPowers, HasRange, HasRoom}

@@ -1,5 +1,6 @@
--- PowersLaw: the built leaf of powers is well formed, no two of its moves take the same states, and its proof is valid.
-use Rattle.std.specs.Prelude.{◌≡◌, ◌≤◌, ℕ, List, ℤ, AllPairs, length, Some}
+-- PowersLaw: the built leaf of powers is well formed and has few states, no two of its moves take the same states, and
+-- its proof is valid.
+use Rattle.std.specs.Prelude.{◌≡◌, ◌≤◌, ℕ, ◌+◌, ◌*◌, List, ℤ, AllPairs, length, Some}
 use Rattle.pop_leaf.specs.LeafModel.{IsLeaf}
 use Rattle.pop_leaf.specs.Reaction.{Differ}
 use Rattle.cert_base.specs.ValidProof.{ValidLeafProof}
@@ -12,6 +13,7 @@ use Rattle.comp_powers.specs.PowersProof.{powers_part}
 
 pub record ArePowersRight (coefs : List ℤ) (bound : ℤ) (k spare : ℕ) : Type 0 where
   pub formed : IsLeaf (powers_leaf_of coefs bound k spare)
+  pub few : length (powers_leaf_of coefs bound k spare).states ≤ 2 * k + 5 + (k + 1) * length coefs
   pub single : AllPairs Differ (powers_leaf_of coefs bound k spare).moves
   pub valid : ValidLeafProof (powers_leaf_of coefs bound k spare) (powers_part coefs bound k spare)
   pub within : IsLeafProofWithin (length coefs) (powers_part coefs bound k spare)

@@ -13,7 +13,6 @@ mod values;
 mod weights;
 mod whole;
 
-pub use comp_bits::RANGE_LIMIT;
 pub use comp_powers_leaf::{powers_range, powers_states};
 pub use law::powers_are_right;
 pub use whole::powers;

@@ -6,7 +6,7 @@ ghost use Rattle.cert_base.specs.declared.node.Node.TheVariants.{Twin as twin_no
 ghost use Rattle.cert_base.specs.declared.node.Node.TheVariants.{Present as present_node};
 ghost use Rattle.pop_leaf.specs.declared.limits.TheConstants.{STATE_LIMIT};
 ghost use Rattle.comp_trees.specs.LeaderTree.{weighed_node};
-ghost use Rattle.comp_bits.specs.declared.limits.TheConstants.{RANGE_LIMIT};
+ghost use Rattle.comp_trees.specs.declared.range.TheConstants.{RANGE_LIMIT};
 ghost use Rattle.comp_powers.specs.PowersProof.{hubs, twin_places, powers_tree, no_leak_mix, helped_mix};
 ghost use Rattle.comp_powers.specs.PowersProof.{no_hub_mix};
 

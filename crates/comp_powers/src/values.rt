@@ -3,13 +3,13 @@
 ghost use Rattle.std.specs.Prelude.{◌≡◌, ◌<◌, ◌≤◌, ◌^◌, pos, length, map, IfOk};
 ghost use Rattle.std.specs.List.{range_with_len};
 ghost use Rattle.cert_base.specs.FactsAndCases.{states_of};
-ghost use Rattle.comp_bits.specs.declared.limits.TheConstants.{RANGE_LIMIT};
+ghost use Rattle.comp_trees.specs.declared.range.TheConstants.{RANGE_LIMIT};
 ghost use Rattle.comp_powers_leaf.specs.PowersLeaf.{worth, role_at, IsRole, HasRange, roles as all_roles};
 ghost use Rattle.comp_powers.specs.PowersProof.{by_role, credit, amount_of, minus_ready, minus_wrong};
 
 use crate::roled::RoledLeaf;
-use comp_bits::two_to;
 use comp_powers_leaf::{Role, owed_by};
+use comp_trees::two_to;
 use pop_io::NoMemory;
 use pop_leaf::Leaf;
 use std::alloc::Global;

@@ -2,7 +2,7 @@
 
 ghost use Rattle.std.specs.Prelude.{◌≡◌, ◌≤◌, ◌<◌, ◌++◌, ◌∷◌, [], if◌then◌else◌, length, map, pos, IfOk, OnOk};
 ghost use Rattle.comp_trees.specs.SortedLayers.{sorted_layer};
-ghost use Rattle.comp_bits.specs.declared.limits.TheConstants.{RANGE_LIMIT};
+ghost use Rattle.comp_trees.specs.declared.range.TheConstants.{RANGE_LIMIT};
 ghost use Rattle.comp_powers.specs.PowersProof.{powers_layers_of};
 ghost use Rattle.comp_powers_leaf.specs.PowersLeaf.{powers_moves};
 ghost use Rattle.comp_powers_leaf.specs.PowersLayers.{low_kind, nothing_kind, kind_by, kind_at, sum_weight};

@@ -3,7 +3,7 @@ use Rattle.std.proofs.Common.{◌≡◌, ◌∙◌, ℕ, zero, suc, ◌+◌, ◌
 use Rattle.std.specs.Prelude.{ℤ, pos, negsuc, Some, slice_get, replicate, flat_map}
 use Rattle.std.specs.List.{range_with_len}
 use Rattle.std.proofs.lemmas.List.{append-nil}
-use Rattle.list_laws.proofs.Lists.{take_one_more}
+use Rattle.base_laws.proofs.Lists.{take_one_more}
 use Rattle.comp_powers_leaf.specs.declared.role.Role.{Role}
 use Rattle.comp_powers_leaf.proofs.Moves.{chain-most}
 use Rattle.comp_powers_leaf.proofs.Places.{length-block, length-pieces}
@@ -48,6 +48,21 @@ pub states_counted : (coefs : List ℤ) (k : ℕ) → length (roles coefs k) ≡
 states_counted coefs k =
     let pieces = flat_map pieces_of (range_with_len 0 k) in
     omega (arith, length-append (fixed_roles k) (blocks_from k 0 coefs), length-append pieces (Plus ∷ []), length-pieces 0 k, blocks-long k 0 coefs)
+
+size-few : (k : ℕ) (a : ℤ) → block_size k a ≤ k + 1
+size-few k (pos n) = let m = chain-most k (pos n) in omega (arith, m)
+size-few k (negsuc n) = omega arith
+
+before-few : (k : ℕ) (coefs : List ℤ) → states_before k coefs (length coefs) ≤ (k + 1) * length coefs
+before-few k [] = omega arith
+before-few k (a ∷ coefs) =
+    let here = size-few k a in
+    let rest = before-few k coefs in
+    let times : (k + 1) * suc (length coefs) ≡ (k + 1) + (k + 1) * length coefs = grind arith in
+    omega (arith, here, rest, times)
+
+pub states-few : (coefs : List ℤ) (k : ℕ) → length (roles coefs k) ≤ 2 * k + 5 + (k + 1) * length coefs
+states-few coefs k = let count = states_counted coefs k in let rest = before-few k coefs in omega (arith, count, rest)
 
 -- one more variable's states
 pub more_blocks : (k j : ℕ) (coefs : List ℤ) (a : ℤ) (first before own after : List Role) → slice_get coefs j ≡ Some a → length (take j coefs) ≡ j → before ≡ first ++ blocks_from k 0 (take j coefs) → own ≡ block_of k j a → after ≡ before ++ own → after ≡ first ++ blocks_from k 0 (take (j + 1) coefs)

@@ -10,11 +10,11 @@ use Rattle.std.proofs.lemmas.List.FromFn.{length-map-range_with_len}
 use Rattle.pop_io.specs.Names.{state_name, AreNames}
 use Rattle.pop_leaf.specs.declared.leaf.Move.{Move}
 use Rattle.pop_leaf.specs.LeafModel.{LeafModel, IsLeaf, IsMoveBelow}
-use Rattle.list_laws.proofs.Ranges.{all_range}
+use Rattle.base_laws.proofs.Ranges.{all_range}
 use Rattle.comp_trees.proofs.StateNames.{number-named, named-apart}
 use Rattle.comp_powers_leaf.specs.declared.role.Role.{Role}
 use Rattle.comp_powers_leaf.specs.declared.role.Role.TheVariants.{Nothing, Piece}
-use Rattle.comp_bits.specs.Bits.{power_in, has_bit}
+use Rattle.comp_trees.specs.Bits.{power_in, has_bit}
 use Rattle.comp_powers_leaf.specs.PowersLeaf.{coefficient_of, chain_of, rest_of, says, roles, fixed_count, role_at, place, meet, move_by, moves_at, powers_moves, start_by, start_of, powers_inputs, hub_of, lacking, bit_role, helper_roles, all_helper_roles, powers_helper_count, state_name_at, powers_leaf_of, IsPowers, HasRange, HasRoom}
 use Rattle.comp_powers_leaf.proofs.Places.{there}
 use Rattle.comp_powers_leaf.specs.PowersLeaf.{IsRole}

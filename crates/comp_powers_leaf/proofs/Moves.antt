@@ -7,12 +7,12 @@ use Rattle.std.proofs.lemmas.Bool.{ltb-true}
 use Rattle.std.proofs.lemmas.List.Elements.{All-nil, All-cons}
 use Rattle.pop_leaf.specs.declared.leaf.Move.{Move}
 use Rattle.pop_leaf.specs.LeafModel.{IsMoveBelow}
-use Rattle.list_laws.proofs.Ranges.{all_range}
-use Rattle.list_laws.proofs.Lists.{has_first}
+use Rattle.base_laws.proofs.Ranges.{all_range}
+use Rattle.base_laws.proofs.Lists.{has_first}
 use Rattle.comp_trees.proofs.Members.{all_flat, has_flat, range_has}
 use Rattle.comp_powers_leaf.specs.declared.role.Role.{Role}
 use Rattle.comp_powers_leaf.specs.declared.role.Role.TheVariants.{Piece, Plus, Debtor}
-use Rattle.comp_bits.specs.Bits.{power_in}
+use Rattle.comp_trees.specs.Bits.{power_in}
 use Rattle.comp_powers_leaf.specs.PowersLeaf.{coefficient_of, chain_by, chain_of, power, rest_of, fixed_roles, blocks_from, roles, fixed_count, role_at, place, meet, move_by, moves_at, powers_moves}
 use Rattle.comp_powers_leaf.proofs.Places.{there, role-valid, length-fixed}
 use Rattle.comp_powers_leaf.specs.PowersLeaf.{IsRole}

@@ -9,8 +9,8 @@ use Rattle.std.proofs.Math.ListN.{get_or-append}
 use Rattle.std.proofs.lemmas.List.{get_or-append-add}
 use Rattle.std.proofs.lemmas.List.Elements.{All-nil, All-cons, All-append, All-map, All-get_or, Contains-append_left, Contains-append_right}
 use Rattle.std.proofs.lemmas.List.FromFn.{get_or-map-range_with_len, length-map-range_with_len}
-use Rattle.list_laws.proofs.Ranges.{all_range}
-use Rattle.list_laws.proofs.Lists.{has_map, has_first, has_later}
+use Rattle.base_laws.proofs.Ranges.{all_range}
+use Rattle.base_laws.proofs.Lists.{has_map, has_first, has_later}
 use Rattle.comp_trees.proofs.Members.{all_flat, range_has, has_flat}
 use Rattle.comp_powers_leaf.specs.declared.role.Role.{Role}
 use Rattle.comp_powers_leaf.specs.declared.role.Role.TheVariants.{Low, High, Nothing, Piece, Plus, Debtor, Token}

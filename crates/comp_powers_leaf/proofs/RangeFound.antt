@@ -12,7 +12,7 @@ use Rattle.pop_leaf.specs.declared.limits.TheConstants.{STATE_LIMIT}
 use Rattle.pop_leaf.proofs.Found.{find_some}
 use Rattle.comp_powers_leaf.specs.PowersLeaf.{coefficient_of, roles, IsPowers}
 use Rattle.comp_powers_leaf.specs.PowersRange.{bound_size, suffices, powers_range}
-use Rattle.comp_bits.proofs.Bits.{some_power}
+use Rattle.comp_trees.proofs.Bits.{some_power}
 
 bounded : (a : ℤ) (m : ℕ) → 0 < m → bound_size a ≤ m → (a <ℤ pos (m + 1)) × (neg_ℤ (pos m) <ℤ a)
 bounded (pos n) m s l = ((let h : pos n <ℤ pos (m + 1) = omega (arith, ints, l) in h), (let h : neg_ℤ (pos m) <ℤ pos n = omega (arith, ints, s) in h))

@@ -6,7 +6,7 @@ use Rattle.std.proofs.lemmas.Bool.{cases_eq}
 use Rattle.std.proofs.lemmas.List.Elements.{All-nil, All-cons}
 use Rattle.pop_leaf.specs.declared.leaf.Move.{Move}
 use Rattle.pop_leaf.specs.Reaction.{Differ}
-use Rattle.list_laws.proofs.Ranges.{all_range}
+use Rattle.base_laws.proofs.Ranges.{all_range}
 use Rattle.comp_trees.proofs.Members.{all_flat}
 use Rattle.comp_trees.proofs.Single.{pairs_flat, differ-by}
 use Rattle.comp_powers_leaf.specs.declared.role.Role.{Role}

@@ -10,12 +10,12 @@ use Rattle.std.proofs.lemmas.List.Elements.{All-head, All-tail}
 use Rattle.pop_leaf.proofs.Found.{find_some}
 use Rattle.cert_base.specs.WeightedSums.{total}
 use Rattle.comp_trees.proofs.HelperSums.{total-append}
-use Rattle.list_laws.proofs.Ranges.{range_one_more}
+use Rattle.base_laws.proofs.Ranges.{range_one_more}
 use Rattle.comp_powers_leaf.specs.declared.role.Role.{Role}
 use Rattle.comp_powers_leaf.specs.declared.role.Role.TheVariants.{Low, High, Nothing, Piece, Plus, Debtor, Token}
-use Rattle.comp_bits.specs.Bits.{power_in, has_bit}
+use Rattle.comp_trees.specs.Bits.{power_in, has_bit}
 use Rattle.comp_powers_leaf.specs.PowersLeaf.{coefficient_of, owed, worth, role_at, place, start_by, start_of, hub_of, lacking, bit_role, helper_roles, all_helper_roles}
-use Rattle.comp_bits.proofs.Bits.{more_bits, no_bits, all_bits, some_power}
+use Rattle.comp_trees.proofs.Bits.{more_bits, no_bits, all_bits, some_power}
 use Rattle.comp_powers_leaf.proofs.Places.{there}
 use Rattle.comp_powers_leaf.specs.PowersLeaf.{IsRole}
 use Rattle.comp_powers_leaf.proofs.Kept.{waits, worth-power, worth-rest}

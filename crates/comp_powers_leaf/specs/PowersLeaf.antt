@@ -4,15 +4,15 @@ use Rattle.std.specs.Prelude.{◌<◌, ◌≤◌, ◌<ℤ◌, ℕ, zero, suc, �
 use Rattle.std.specs.Prelude.{◌&&◌, ◌||◌, ◌==◌, nat_lt, nat_le}
 use Rattle.std.specs.Prelude.{if◌then◌else◌, List, [], ◌∷◌, ◌++◌, length, map, flat_map, slice_index_or, ℤ}
 use Rattle.std.specs.Prelude.{pos, negsuc, neg_ℤ}
-use Rattle.std.specs.Prelude.{nat_abs, find, replicate, Option, Some, None}
+use Rattle.std.specs.Prelude.{nat_abs, replicate, Option, Some, None}
 use Rattle.std.specs.List.{range_with_len}
 use Rattle.std.specs.Fmt.{decimal}
 use Rattle.pop_io.specs.declared.names.TheConstants.{VARIABLE_LIMIT}
 use Rattle.pop_leaf.specs.declared.limits.TheConstants.{STATE_LIMIT, HELPER_LIMIT}
 use Rattle.pop_leaf.specs.declared.leaf.Move.{Move}
 use Rattle.pop_leaf.specs.LeafModel.{LeafModel}
-use Rattle.comp_bits.specs.Bits.{has_bit, power_in}
-use Rattle.comp_bits.specs.declared.limits.TheConstants.{RANGE_LIMIT}
+use Rattle.comp_trees.specs.Bits.{has_bit, power_in}
+use Rattle.comp_trees.specs.declared.range.TheConstants.{RANGE_LIMIT}
 use Rattle.comp_powers_leaf.specs.declared.role.Role.{Role}
 use Rattle.comp_powers_leaf.specs.declared.role.Role.TheVariants.{Low, High, Nothing, Piece, Plus, Debtor, Token}
 

@@ -3,7 +3,7 @@
 ghost use Rattle.std.specs.Prelude.{◌≡◌, ◌≤◌, ◌≤ℤ◌, ◌^◌, pos, length, map, IfOk};
 ghost use Rattle.std.specs.List.{range_with_len};
 ghost use Rattle.pop_leaf.specs.declared.limits.TheConstants.{STATE_LIMIT};
-ghost use Rattle.comp_bits.specs.declared.limits.TheConstants.{RANGE_LIMIT};
+ghost use Rattle.comp_trees.specs.declared.range.TheConstants.{RANGE_LIMIT};
 ghost use Rattle.comp_powers_leaf.specs.PowersLeaf.{says, start_of, powers_inputs, HasRange};
 ghost use Rattle.comp_powers_leaf.specs.PowersLeaf.{roles as all_roles, state_name_at, start_by};
 ghost use Rattle.comp_powers_leaf.specs.PowersLeaf.{hub_of, lacking, bit_role, helper_roles, all_helper_roles};
@@ -14,7 +14,7 @@ use crate::listing::{moves, place_in};
 use crate::meeting::{power_role, rest};
 use crate::placing::roles;
 use crate::role::{Role, answer};
-use comp_bits::{is_set, power_of, two_to};
+use comp_trees::{is_set, power_of, two_to};
 use pop_io::{List, NoMemory, Text};
 use pop_leaf::Leaf;
 use std::alloc::Global;

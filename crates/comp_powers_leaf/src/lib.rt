@@ -1,5 +1,5 @@
 //! Leaves that compute `a(1)*x(1) + .. < c` with some three states for each bit, for all coefficients and bounds.
-//! It stands on `comp_trees` and `comp_bits`.
+//! It stands on `comp_trees`.
 //! The layer above uses: `powers_leaf` gives exactly the built leaf; `powers_range` finds the least range that
 //! suffices, and `powers_states` says how many states the leaf has for it (`range-suffices` joins both to `IsPowers`).
 #![tactic(auto)]

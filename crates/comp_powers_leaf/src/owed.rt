@@ -2,9 +2,9 @@
 
 ghost use Rattle.std.specs.Prelude.{◌≡◌, ◌≤◌, ◌^◌, nat_abs};
 ghost use Rattle.comp_powers_leaf.specs.PowersLeaf.{owed};
-ghost use Rattle.comp_bits.specs.declared.limits.TheConstants.{RANGE_LIMIT};
+ghost use Rattle.comp_trees.specs.declared.range.TheConstants.{RANGE_LIMIT};
 
-use comp_bits::two_to;
+use comp_trees::two_to;
 
 /// What the tokens of a variable with this coefficient give off.
 pub fn owed_by(k: u32, coef: i64) -> u64

@@ -3,14 +3,14 @@
 ghost use Rattle.std.specs.Prelude.{◌≡◌, ◌≤◌, ◌++◌, ◌+◌, ◌*◌, length, map, flat_map, IfOk, OnOk};
 ghost use Rattle.std.specs.List.{range_with_len};
 ghost use Rattle.pop_io.specs.declared.names.TheConstants.{VARIABLE_LIMIT};
-ghost use Rattle.comp_bits.specs.declared.limits.TheConstants.{RANGE_LIMIT};
+ghost use Rattle.comp_trees.specs.declared.range.TheConstants.{RANGE_LIMIT};
 ghost use Rattle.comp_powers_leaf.specs.declared.role.Role.TheVariants.{Token as token_of};
 ghost use Rattle.comp_powers_leaf.specs.PowersLeaf.{chain_of, debtors_of, block_of, fixed_roles, pieces_of};
 ghost use Rattle.comp_powers_leaf.specs.PowersLeaf.{roles as all_roles, block_size, states_before};
 ghost use Rattle.comp_powers_leaf.specs.PowersLeaf.{place as place_of, HasRange, IsRole};
 
 use crate::role::{Role, behind};
-use comp_bits::power_of;
+use comp_trees::power_of;
 use pop_io::NoMemory;
 use std::alloc::Global;
 

@@ -2,10 +2,10 @@
 
 ghost use Rattle.std.specs.Prelude.{◌≡◌, ◌≤◌, nat_abs, nat_le, IfSome};
 ghost use Rattle.std.specs.List.{list_all};
-ghost use Rattle.comp_bits.specs.declared.limits.TheConstants.{RANGE_LIMIT as GREATEST_RANGE};
+ghost use Rattle.comp_trees.specs.declared.range.TheConstants.{RANGE_LIMIT as GREATEST_RANGE};
 ghost use Rattle.comp_powers_leaf.specs.PowersRange.{bound_size, suffices, powers_range as range_of};
 
-use comp_bits::{RANGE_LIMIT, two_to};
+use comp_trees::{RANGE_LIMIT, two_to};
 
 /// The least that 2^k may be for a bound.
 fn size_of(bound: i64) -> u64

@@ -13,7 +13,7 @@ use Rattle.comp_remainder.specs.RemainderLeaf.{residue_of, leader_meeting, follo
 use Rattle.comp_remainder.proofs.MoveLists.{all_moves, follower-below}
 use Rattle.comp_remainder.proofs.Remainders.{residue-below}
 use Rattle.comp_remainder.proofs.StateNames.{names-formed}
-use Rattle.list_laws.proofs.Numbers.{triangle, triangle-le}
+use Rattle.base_laws.proofs.Numbers.{triangle, triangle-le}
 
 triangle-most : triangle 200 ≡ 20100
 triangle-most = refl

@@ -16,6 +16,10 @@ use Rattle.comp_trees.proofs.LeaderLayers.{kind-pair, kind-below, kind-up, kind-
 use Rattle.comp_remainder.specs.RemainderLeaf.{remainder_follower, leader_meeting, follower_turn, remainder_moves, remainder_state_name, remainder_leaf_of}
 use Rattle.comp_remainder.specs.RemainderLayers.{indicator_weights, all_weights, remainder_layers}
 use Rattle.comp_remainder.proofs.MoveLists.{all_moves, has_pair, follower-above, follower-below, followers-apart, pair-loud, turn-loud}
+use Rattle.cert_base.specs.TameLayers.{IsNoHigher, TameLayers}
+use Rattle.comp_trees.proofs.TameKinds.{sorted_layers-tame}
+use Rattle.comp_trees.proofs.LeaderTame.{AreTurns, leaders-tame}
+use Rattle.comp_remainder.proofs.SingleMoves.{moves-single}
 
 weight-is : (m : ℕ) (test : ℕ → Bool) (q : ℕ) (b : Bool) → q < m + 2 → test q ≡ b → weight_at (indicator_weights m test) q ≡ indicator b
 weight-is m test q b l e = get_or-map-range_with_len (λ q. indicator (test q)) 0 (m + 2) q q (pos 0) l (zero-add q) ∙ ap indicator e
@@ -95,3 +99,49 @@ module _ (coefs : List ℤ) (m rest spare : ℕ) where
 
   pub layers-valid : ValidLayers leaf (remainder_layers leaf m)
   layers-valid = sorted_layers-valid leaf (leader_kind m) (all_weights m) are_kinds
+
+  -- ---- the layers are tame
+
+  pair-first : {A : Type 0} (p q k : ℕ) → q < m → 0 < k → leader_kind m (leader_meeting m rest p q) ≡ k → A
+  pair-first p q k l more e = let zero_kind = kind-pair m (leader_meeting m rest p q) l in absurd (omega (arith, zero_kind, more, e))
+
+  turn-up : (p : ℕ) → (p == rest) ≡ true → leader_kind m (follower_turn m rest p) ≡ 1
+  turn-up p e =
+      let l : remainder_follower m (not (p == rest)) < remainder_follower m (p == rest) = rw e (omega arith) in
+      kind-up m (follower_turn m rest p) (follower-above m (not (p == rest))) refl l
+
+  turn-down : (p : ℕ) → (p == rest) ≡ false → leader_kind m (follower_turn m rest p) ≡ 2
+  turn-down p e =
+      let l : remainder_follower m (p == rest) ≤ remainder_follower m (not (p == rest)) = rw e (omega arith) in
+      kind-down m (follower_turn m rest p) (follower-above m (not (p == rest))) refl l
+
+  up_says : (p : ℕ) (b : Bool) → (p == rest) ≡ b → leader_kind m (follower_turn m rest p) ≡ 1 → (p == rest) ≡ true
+  up_says p true e k = e
+  up_says p false e k = let two = turn-down p e in absurd (omega (arith, two, k))
+
+  down_says : (p : ℕ) (b : Bool) → (p == rest) ≡ b → leader_kind m (follower_turn m rest p) ≡ 2 → (p == rest) ≡ false
+  down_says p false e k = e
+  down_says p true e k = let one = turn-up p e in absurd (omega (arith, one, k))
+
+  -- a turn keeps the number of leaders
+  turn-still : (p : ℕ) → p < m → IsNoHigher (indicator_weights m (λ q. nat_lt q m)) (follower_turn m rest p)
+  turn-still p l =
+      let test : ℕ → Bool = λ q. nat_lt q m in
+      let old = remainder_follower m (not (p == rest)) in
+      let new = remainder_follower m (p == rest) in
+      let p_is = weight-is m test p true (omega (arith, l)) (lt-ltb p m l) in
+      let q_is = weight-is m test old false (follower-below m (not (p == rest))) (le-ltb old m (follower-above m (not (p == rest)))) in
+      let s_is = weight-is m test new false (follower-below m (p == rest)) (le-ltb new m (follower-above m (p == rest))) in
+      omega (arith, ints, p_is, q_is, s_is)
+
+  are_turns : AreTurns leaf m (all_weights m) (λ p. p == rest)
+  are_turns = record {
+    still = all_moves m rest (λ t. 0 < leader_kind m t → IsNoHigher (get_or (all_weights m) 0 []) t) (λ p q l k more. pair-first p q (leader_kind m (leader_meeting m rest p q)) k more refl) (λ p l more. turn-still p l);
+    up = all_moves m rest (λ t. leader_kind m t ≡ 1 → (t.p == rest) ≡ true) (λ p q l k e. pair-first p q 1 k (omega arith) e) (λ p l e. up_says p (p == rest) refl e);
+    down = all_moves m rest (λ t. leader_kind m t ≡ 2 → (t.p == rest) ≡ false) (λ p q l k e. pair-first p q 2 k (omega arith) e) (λ p l e. down_says p (p == rest) refl e);
+  }
+
+  pub layers-tame : TameLayers leaf (remainder_layers leaf m)
+  layers-tame =
+      sorted_layers-tame leaf (leader_kind m) (all_weights m) are_kinds
+      (leaders-tame leaf m is_protocol (all_weights m) (λ p. p == rest) (moves-single m rest) are_turns)

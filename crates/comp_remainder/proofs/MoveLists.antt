@@ -9,8 +9,8 @@ use Rattle.pop_leaf.specs.declared.leaf.Move.{Move}
 use Rattle.pop_leaf.specs.LeafModel.{silent_move, same_pair}
 use Rattle.comp_trees.proofs.Members.{all_flat, range_has, has_flat}
 use Rattle.comp_remainder.specs.RemainderLeaf.{remainder_follower, leader_meeting, follower_turn, remainder_pairs, remainder_moves}
-use Rattle.list_laws.proofs.Ranges.{all_range}
-use Rattle.list_laws.proofs.Lists.{has_map}
+use Rattle.base_laws.proofs.Ranges.{all_range}
+use Rattle.base_laws.proofs.Lists.{has_map}
 
 -- what holds for each meeting and for each turn
 pub all_moves : (m rest : ℕ) (P : Move → Type 0) → ((p q : ℕ) → p < m → q < m → P (leader_meeting m rest p q)) → ((p : ℕ) → p < m → P (follower_turn m rest p)) → All P (remainder_moves m rest)

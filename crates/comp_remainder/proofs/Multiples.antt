@@ -6,7 +6,7 @@ use Rattle.std.proofs.lemmas.Bool.{eq-eqb, ne_eqb, cases_lt}
 use Rattle.std.proofs.Math.Nat.{mul-mod_left, mod-add-div', mod-lt, mod-eq_of_lt, add-mul, one-mul}
 use Rattle.pres_ast.specs.PredicateValue.{is_multiple}
 use Rattle.comp_remainder.specs.RemainderLeaf.{residue_of}
-use Rattle.list_laws.proofs.Numbers.{size-neg}
+use Rattle.base_laws.proofs.Numbers.{size-neg}
 
 pub divides-multiple : (m k : ℕ) → is_multiple m (pos (k * m)) ≡ true
 divides-multiple m k = eq-eqb _ 0 (mul-mod_left k m)

@@ -9,7 +9,7 @@ use Rattle.comp_trees.proofs.SortedLayers.{AllPairs-append}
 use Rattle.comp_trees.proofs.Single.{pairs_map, pairs_flat, differ-by}
 use Rattle.comp_remainder.specs.RemainderLeaf.{remainder_follower, leader_meeting, follower_turn, remainder_pairs, remainder_moves}
 use Rattle.comp_remainder.proofs.MoveLists.{follower-above}
-use Rattle.list_laws.proofs.Ranges.{all_range}
+use Rattle.base_laws.proofs.Ranges.{all_range}
 
 apart : (m p q : ℕ) → p < m → m ≤ q → p ≢ q
 apart m p q l k e = omega arith

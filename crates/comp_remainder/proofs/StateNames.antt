@@ -9,7 +9,7 @@ use Rattle.pop_io.specs.Names.{state_name, AreNames}
 use Rattle.comp_trees.proofs.StateNames.{decimal-printed, named-apart}
 use Rattle.comp_remainder.specs.RemainderLeaf.{remainder_follower, remainder_state_name}
 use Rattle.comp_remainder.proofs.StateKinds.{Kind, a_leader, a_follower, kind_of}
-use Rattle.list_laws.proofs.Lists.{heads}
+use Rattle.base_laws.proofs.Lists.{heads}
 
 -- the name of a leader
 number-name : (q : ℕ) → q < 1000 → IsTrue (state_name (78 ∷ decimal q))

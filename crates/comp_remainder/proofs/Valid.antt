@@ -13,7 +13,8 @@ use Rattle.comp_remainder.specs.RemainderLeaf.{remainder_leaf_of}
 use Rattle.comp_remainder.proofs.Formed.{remainder-formed}
 use Rattle.comp_remainder.specs.RemainderLayers.{remainder_layers}
 use Rattle.comp_remainder.specs.RemainderProof.{congruence, remainder_tree, remainder_part}
-use Rattle.comp_remainder.proofs.Layers.{layers-valid}
+use Rattle.comp_remainder.proofs.Layers.{layers-valid, layers-tame}
+use Rattle.cert_base.specs.TameLayers.{TameLayers}
 use Rattle.comp_remainder.proofs.Trees.{tree-true, tree-false}
 use Rattle.comp_remainder.proofs.Within.{layers-within, nodes-within}
 
@@ -53,3 +54,7 @@ part-as coefs m rest spare leaf pred layers on_true on_false el ep ey ea eb =
 pub whole-valid : (coefs : List ℤ) (m rest spare : ℕ) (leaf : LeafModel) (part : LeafProof) → leaf ≡ remainder_leaf_of coefs m rest spare → part ≡ remainder_part coefs m rest spare → 1 ≤ length coefs → length coefs ≤ 16 → 2 ≤ m → m ≤ 200 → rest < m → spare ≤ HELPER_LIMIT → ValidLeafProof leaf part
 whole-valid coefs m rest spare leaf part el ep some few low high below held =
     subst (λ l. ValidLeafProof l part) (sym el) (subst (ValidLeafProof (remainder_leaf_of coefs m rest spare)) (sym ep) (remainder-valid coefs m rest spare some few low high below held))
+
+pub whole-tame : (coefs : List ℤ) (m rest spare : ℕ) (leaf : LeafModel) (part : LeafProof) → leaf ≡ remainder_leaf_of coefs m rest spare → part ≡ remainder_part coefs m rest spare → TameLayers leaf part.layers
+whole-tame coefs m rest spare leaf part el ep =
+    subst (λ l. TameLayers l part.layers) (sym el) (subst (λ (p : LeafProof). TameLayers (remainder_leaf_of coefs m rest spare) p.layers) (sym ep) (layers-tame coefs m rest spare))

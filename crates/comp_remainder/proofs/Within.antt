@@ -19,7 +19,7 @@ use Rattle.comp_remainder.specs.RemainderLeaf.{remainder_output, remainder_state
 use Rattle.comp_remainder.proofs.Trees.{is_led}
 use Rattle.comp_remainder.specs.RemainderProof.{remainder_value, opened_by, remainder_leader_node, remainder_tree}
 use Rattle.comp_remainder.specs.RemainderLayers.{indicator_weights, remainder_layers}
-use Rattle.list_laws.proofs.Ranges.{all_range}
+use Rattle.base_laws.proofs.Ranges.{all_range}
 
 value-small : (m q : ℕ) → m ≤ 200 → IsSmall (remainder_value m q)
 value-small m q few = go (cases_lt q m)

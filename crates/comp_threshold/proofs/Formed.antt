@@ -16,7 +16,7 @@ use Rattle.comp_threshold.specs.ThresholdLeaf.{threshold_width, span_of, place_o
 use Rattle.comp_threshold.proofs.Places.{place-most, width-coef}
 use Rattle.comp_threshold.proofs.MoveLists.{all_moves, leader_move-below}
 use Rattle.comp_threshold.proofs.StateNames.{names-formed}
-use Rattle.list_laws.proofs.Numbers.{triangle, triangle-le}
+use Rattle.base_laws.proofs.Numbers.{triangle, triangle-le}
 
 triangle-most : triangle 161 ≡ 13041
 triangle-most = refl

@@ -4,7 +4,7 @@ use Rattle.std.specs.Prelude.{ℤ, pos, ◌+ℤ◌, ◌<ℤ◌, if◌then◌else
 use Rattle.std.proofs.lemmas.Int.{ints}
 use Rattle.std.proofs.lemmas.Bool.{lt-ltb, le-ltb, cases_lt, eq-eqb}
 use Rattle.std.proofs.lemmas.Bool.Decides.{eqb_tells}
-use Rattle.std.proofs.lemmas.List.Elements.{All-nil, All-cons, All-contains}
+use Rattle.std.proofs.lemmas.List.Elements.{All-nil, All-cons, All-contains, All-weaker}
 use Rattle.std.proofs.lemmas.List.FromFn.{length-map-range_with_len, get_or-map-range_with_len}
 use Rattle.pop_leaf.specs.declared.leaf.Move.{Move}
 use Rattle.pop_leaf.specs.LeafModel.{LeafModel, silent_move}
@@ -16,6 +16,10 @@ use Rattle.comp_threshold.specs.ThresholdLeaf.{span_of, threshold_place, thresho
 use Rattle.comp_threshold.specs.ThresholdProof.{threshold_distance, threshold_first_weight, threshold_false_weight, threshold_true_weight, threshold_weights, threshold_layers}
 use Rattle.comp_threshold.proofs.Places.{IsCut, cut, Kind, a_leader, a_follower, kind_of, place-follower, follower-above, follower-below}
 use Rattle.comp_threshold.proofs.MoveLists.{all_moves_changing, leader_move-cut, pair-loud, turn-loud, has_pair}
+use Rattle.cert_base.specs.TameLayers.{IsNoHigher, TameLayers}
+use Rattle.comp_trees.proofs.TameKinds.{sorted_layers-tame}
+use Rattle.comp_trees.proofs.LeaderTame.{AreTurns, leaders-tame}
+use Rattle.comp_threshold.proofs.Single.{moves-single}
 
 -- ---- weights
 
@@ -249,3 +253,76 @@ module _ (s t : ℕ) (inputs : List ℕ) where
 
   pub layers-valid : ValidLayers leaf (threshold_layers leaf s)
   layers-valid = sorted_layers-valid leaf (leader_kind (span_of s)) (all_weights s) are_kinds
+
+  -- ---- the layers are tame
+
+  record IsTold (m : Move) : Type 0 where
+    pub still : 0 < leader_kind (span_of s) m → IsNoHigher (threshold_weights s (threshold_first_weight s)) m
+    pub up : leader_kind (span_of s) m ≡ 1 → nat_lt m.p t ≡ true
+    pub down : leader_kind (span_of s) m ≡ 2 → nat_lt m.p t ≡ false
+
+  first-told : (m : Move) → leader_kind (span_of s) m ≡ 0 → IsTold m
+  first-told m e = record {
+    still = λ more. absurd (omega (arith, e, more));
+    up = λ k. absurd (omega (arith, e, k));
+    down = λ k. absurd (omega (arith, e, k));
+  }
+
+  -- a turn that keeps the values keeps the first weights
+  flip-still : (p v : ℕ) (bit : Bool) → p < span_of s → v < span_of s → joined_value s p v ≡ p → IsFlip s t p v bit → IsNoHigher (threshold_weights s (threshold_first_weight s)) (threshold_leader_move s t p (threshold_follower s bit v))
+  flip-still p v bit l m e is =
+      let at = turn s t p v bit l m in
+      let to = nat_lt (joined_value s p v) t in
+      let r_is = at.r_is ∙ e in
+      let s_is : (threshold_leader_move s t p (threshold_follower s bit v)).s ≡ threshold_follower s to v = at.s_is ∙ ap (threshold_follower s to) is.left_is in
+      let wp = weight-is s (threshold_first_weight s) p (omega (arith, l)) ∙ first-leader s p l in
+      let wq = weight-is s (threshold_first_weight s) (threshold_follower s bit v) (follower-below s v bit m) ∙ first-follower s v bit m in
+      let wr = ap (weight_at (threshold_weights s (threshold_first_weight s))) r_is ∙ wp in
+      let ws = ap (weight_at (threshold_weights s (threshold_first_weight s))) s_is ∙ weight-is s (threshold_first_weight s) (threshold_follower s to v) (follower-below s v to m) ∙ first-follower s v to m in
+      omega (arith, ints, wp, wq, wr, ws)
+
+  flip-told : (p v : ℕ) (bit : Bool) → p < span_of s → v < span_of s → joined_value s p v ≡ p → IsFlip s t p v bit → IsTold (threshold_leader_move s t p (threshold_follower s bit v))
+  flip-told p v true l m e is =
+      let at = turn s t p v true l m in
+      let s_is : (threshold_leader_move s t p (threshold_follower s true v)).s ≡ threshold_follower s false v = at.s_is ∙ ap (λ (b : Bool). threshold_follower s b (leftover s p v)) is.bit_is ∙ ap (threshold_follower s false) is.left_is in
+      let kind = kind-down (span_of s) (threshold_leader_move s t p (threshold_follower s true v)) (follower-above s v true) (at.r_is ∙ e) (subst (λ x. x ≤ threshold_follower s true v) (sym s_is) (omega arith)) in
+      record {
+        still = λ more. flip-still p v true l m e is;
+        up = λ k. absurd (omega (arith, kind, k));
+        down = λ k. ap (λ x. nat_lt x t) (sym e) ∙ is.bit_is;
+      }
+  flip-told p v false l m e is =
+      let at = turn s t p v false l m in
+      let s_is : (threshold_leader_move s t p (threshold_follower s false v)).s ≡ threshold_follower s true v = at.s_is ∙ ap (λ (b : Bool). threshold_follower s b (leftover s p v)) is.bit_is ∙ ap (threshold_follower s true) is.left_is in
+      let kind = kind-up (span_of s) (threshold_leader_move s t p (threshold_follower s false v)) (follower-above s v false) (at.r_is ∙ e) (subst (λ x. threshold_follower s false v < x) (sym s_is) (omega arith)) in
+      record {
+        still = λ more. flip-still p v false l m e is;
+        up = λ k. ap (λ x. nat_lt x t) (sym e) ∙ is.bit_is;
+        down = λ k. absurd (omega (arith, kind, k));
+      }
+
+  told : (p q : ℕ) → p < span_of s → Kind s q → (q < span_of s) ⊎ (alters_states (threshold_leader_move s t p q) ≡ true) → IsTold (threshold_leader_move s t p q)
+  told p _ l (a_leader q m) why = first-told (threshold_leader_move s t p q) (kind-pair (span_of s) (threshold_leader_move s t p q) m)
+  told p _ l (a_follower bit v m) (inl k) = absurd (let above = follower-above s v bit in omega arith)
+  told p _ l (a_follower bit v m) (inr c) = go (eqb_tells (joined_value s p v) p)
+    where
+      go : ((joined_value s p v == p) ≡ true) × (joined_value s p v ≡ p) ⊎ ((joined_value s p v == p) ≡ false) × (joined_value s p v ≢ p) → IsTold (threshold_leader_move s t p (threshold_follower s bit v))
+      go (inl h) = flip-told p v bit l m h.1 (flip s t p v bit l m h.1 c)
+      go (inr h) =
+          let at = turn s t p v bit l m in
+          first-told (threshold_leader_move s t p (threshold_follower s bit v)) (kind-first (span_of s) (threshold_leader_move s t p (threshold_follower s bit v)) (follower-above s v bit) (λ e. h.1 (sym at.r_is ∙ e)))
+
+  all_told : All IsTold (threshold_moves s t)
+  all_told = all_moves_changing s t IsTold (λ p q l m why. told p q l (kind_of s q m) why)
+
+  are_turns : AreTurns leaf (span_of s) (all_weights s) (λ p. nat_lt p t)
+  are_turns = record {
+    still = All-weaker IsTold (λ m. 0 < leader_kind (span_of s) m → IsNoHigher (get_or (all_weights s) 0 []) m) (λ m is. is.still) leaf.moves all_told;
+    up = All-weaker IsTold (λ m. leader_kind (span_of s) m ≡ 1 → nat_lt m.p t ≡ true) (λ m is. is.up) leaf.moves all_told;
+    down = All-weaker IsTold (λ m. leader_kind (span_of s) m ≡ 2 → nat_lt m.p t ≡ false) (λ m is. is.down) leaf.moves all_told;
+  }
+
+  pub layers-tame : TameLayers leaf (threshold_layers leaf s)
+  layers-tame =
+      sorted_layers-tame leaf (leader_kind (span_of s)) (all_weights s) are_kinds
+      (leaders-tame leaf (span_of s) is_protocol (all_weights s) (λ p. nat_lt p t) (moves-single s t) are_turns)

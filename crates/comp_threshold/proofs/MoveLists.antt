@@ -13,10 +13,10 @@ use Rattle.cert_base.proofs.WeightedSums.{list_any-from}
 use Rattle.comp_trees.proofs.Members.{all_flat, range_has, has_filter, has_flat}
 use Rattle.comp_threshold.specs.ThresholdLeaf.{span_of, threshold_place, threshold_follower, joined_value, leftover, threshold_leader_move, alters_states, threshold_pairs, threshold_turns, threshold_moves, threshold_state_count, built}
 use Rattle.comp_threshold.proofs.Places.{IsCut, cut, Kind, kind_of, place-below, follower-above, follower-below}
-use Rattle.list_laws.proofs.Ranges.{all_range}
-use Rattle.list_laws.proofs.Lists.{has_map, all_filtered}
+use Rattle.base_laws.proofs.Ranges.{all_range}
+use Rattle.base_laws.proofs.Lists.{has_map, all_filtered}
 use Rattle.pop_leaf.proofs.Silent.{same-self, same-other}
-use Rattle.list_laws.proofs.Numbers.{same_turned}
+use Rattle.base_laws.proofs.Numbers.{same_turned}
 
 -- ---- moves
 

@@ -9,7 +9,7 @@ use Rattle.comp_trees.proofs.Members.{all_flat}
 use Rattle.comp_trees.proofs.SortedLayers.{AllPairs-append}
 use Rattle.comp_trees.proofs.Single.{pairs_map, pairs_flat, differ-by}
 use Rattle.comp_threshold.specs.ThresholdLeaf.{span_of, threshold_leader_move, alters_states, threshold_pairs, threshold_turns, threshold_moves}
-use Rattle.list_laws.proofs.Ranges.{all_range}
+use Rattle.base_laws.proofs.Ranges.{all_range}
 
 pub moves-single : (s t : ℕ) → AllPairs Differ (threshold_moves s t)
 moves-single s t =

@@ -17,7 +17,8 @@ use Rattle.comp_threshold.specs.ThresholdLeaf.{threshold_width, place_of_value, 
 use Rattle.comp_threshold.specs.ThresholdProof.{threshold_part, threshold_layers, threshold_tree}
 use Rattle.comp_threshold.specs.Built.{IsThreshold}
 use Rattle.comp_threshold.proofs.Trees.{tree-true, tree-false}
-use Rattle.comp_threshold.proofs.Layers.{layers-valid}
+use Rattle.comp_threshold.proofs.Layers.{layers-valid, layers-tame}
+use Rattle.cert_base.specs.TameLayers.{TameLayers}
 use Rattle.comp_threshold.proofs.Formed.{threshold-formed, threshold-few, built-is}
 use Rattle.comp_threshold.proofs.Within.{threshold-within}
 use Rattle.comp_threshold.proofs.Steps.{steps_are}
@@ -57,5 +58,6 @@ whole-valid coefs bound s t leaf pred layers on_true on_false es et el single ep
       valid = subst (λ l. ValidLeafProof l (part pred layers on_true on_false)) (sym el) (subst (ValidLeafProof (threshold_leaf_of coefs bound)) (sym part_is) (threshold-valid coefs bound some few w));
       bound = ap layers_bound layers_is ∙ steps_are (threshold_leaf_of coefs bound) (threshold_width coefs bound);
       within = subst (IsLeafProofWithin (length coefs)) (sym part_is) (threshold-within coefs bound some few w);
+      tame = subst (λ l. TameLayers l layers) (sym el) (subst (TameLayers (threshold_leaf_of coefs bound)) (sym layers_is) (layers-tame (threshold_width coefs bound) (place_of_value (threshold_width coefs bound) bound) (map (place_of_value (threshold_width coefs bound)) coefs)));
       single = single;
     }

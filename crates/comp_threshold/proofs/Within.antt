@@ -20,7 +20,7 @@ use Rattle.comp_threshold.specs.ThresholdProof.{signed_value, threshold_leader_n
 use Rattle.comp_threshold.proofs.Places.{kind_of, place-below}
 use Rattle.comp_threshold.proofs.Formed.{threshold-formed, threshold-few}
 use Rattle.comp_threshold.proofs.Trees.{is_led}
-use Rattle.list_laws.proofs.Ranges.{all_range}
+use Rattle.base_laws.proofs.Ranges.{all_range}
 
 small_between : (z : ℤ) → z <ℤ pos 1000 → neg_ℤ (pos 1000) <ℤ z → IsSmall z
 small_between (pos n) a b = omega (arith, ints)

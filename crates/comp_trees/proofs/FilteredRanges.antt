@@ -3,7 +3,7 @@ use Rattle.std.proofs.Common.{◌≡◌, ℕ, ◌+◌, ◌<◌, ◌≤◌, Bool,
 use Rattle.std.specs.Prelude.{filter, All, if◌then◌else◌}
 use Rattle.std.specs.List.{range_with_len}
 use Rattle.std.proofs.lemmas.List.Elements.{All-filter, filter-append}
-use Rattle.list_laws.proofs.Ranges.{all_range, range_one_more}
+use Rattle.base_laws.proofs.Ranges.{all_range, range_one_more}
 
 -- one more state is tested
 pub filter_range_more : (test : ℕ → Bool) (q : ℕ) (passes : Bool) (before after : List ℕ) → passes ≡ test q → before ≡ filter test (range_with_len 0 q) → after ≡ before ++ (if passes then (q ∷ []) else []) → after ≡ filter test (range_with_len 0 (q + 1))

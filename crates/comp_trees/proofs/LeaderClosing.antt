@@ -16,7 +16,7 @@ use Rattle.cert_base.specs.FactsAndCases.{states_of, flow, base_list, two_agents
 use Rattle.cert_base.specs.Closes.{refutes, cases_of, ClosesUnder, refuted, by_cases, no_case, next_case, Closes}
 use Rattle.comp_trees.specs.LeaderTree.{leaders, company_of, facts_of_trap, facts_without, facts_of_leader, leader_nodes, leader_tree, weighed_node, no_leader_mix, no_leak_mix, no_start_mix, IsLed}
 use Rattle.comp_trees.proofs.TrapNodes.{no_leak_closes, no_start_closes, no_leader_closes, length_opened, length_nobody}
-use Rattle.list_laws.proofs.Lists.{at_end}
+use Rattle.base_laws.proofs.Lists.{at_end}
 
 -- the second case of a leader
 abbrev present_case : LeafModel → ℕ → List Fact

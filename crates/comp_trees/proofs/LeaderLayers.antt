@@ -43,7 +43,7 @@ kind-turn n t = go (nat_lt t.q n) (t.r == t.p) refl refl
 
 -- ---- what was enabled before
 
-one_if : (x z : ℕ) → ((x ≡ z) × (one_at x z ≡ 1)) ⊎ ((x ≢ z) × (one_at x z ≡ 0))
+pub one_if : (x z : ℕ) → ((x ≡ z) × (one_at x z ≡ 1)) ⊎ ((x ≢ z) × (one_at x z ≡ 0))
 one_if x z = elim (eqb_tells x z) [ inl h ↦ inl (h.1, rw h.0 refl) | inr h ↦ inr (h.1, rw h.0 refl) ]
 
 one_most : (x z : ℕ) → one_at x z ≤ 1
@@ -82,7 +82,7 @@ leaders_before t u v e f ne pair z =
     ]
 
 -- no kind wakes an earlier one
-pub leader_wakes : (leaf : LeafModel) (n : ℕ) → IsLeaderProtocol leaf n → (t u : Move) → Contains leaf.moves t → Contains leaf.moves u → silent_move t ≡ false → silent_move u ≡ false → leader_kind n u < leader_kind n t → (u' : Move) × Contains leaf.moves u' × (silent_move u' ≡ false) × (leader_kind n u' < leader_kind n t) × IsEnabledBefore u' t u
+pub leader_wakes : (leaf : LeafModel) (n : ℕ) → IsLeaderProtocol leaf n → (t u : Move) → Contains leaf.moves t → Contains leaf.moves u → silent_move t ≡ false → silent_move u ≡ false → leader_kind n u < leader_kind n t → (u' : Move) × Contains leaf.moves u' × (silent_move u' ≡ false) × (leader_kind n u' ≤ leader_kind n u) × IsEnabledBefore u' t u
 leader_wakes leaf n is t u ct cu lt lu l = go (cases_eq u.q t.s)
   where
     turn : (n ≤ t.q) × (t.r ≡ t.p)
@@ -100,10 +100,10 @@ leader_wakes leaf n is t u ct cu lt lu l = go (cases_eq u.q t.s)
     apart : (a b : ℕ) → a < n → n ≤ b → b ≢ a
     apart a b k m e = omega arith
 
-    go : (u.q ≡ t.s) ⊎ (u.q ≡ t.s → ⊥) → (u' : Move) × Contains leaf.moves u' × (silent_move u' ≡ false) × (leader_kind n u' < leader_kind n t) × IsEnabledBefore u' t u
+    go : (u.q ≡ t.s) ⊎ (u.q ≡ t.s → ⊥) → (u' : Move) × Contains leaf.moves u' × (silent_move u' ≡ false) × (leader_kind n u' ≤ leader_kind n u) × IsEnabledBefore u' t u
     go (inl e) =
         let other = is.settled t u ct cu turn.0 turn.1 e in
         let v = is.meet t.p u.p first lead (λ f. other (sym f)) in
         let zero_kind = kind-pair n v.0 v.2 in
-        (v.0, v.1, All-contains (λ t. silent_move t ≡ false) leaf.moves v.0 is.loud v.1, (let m : leader_kind n v.0 < leader_kind n t = omega (arith, zero_kind) in m), leaders_before t u v.0 turn.1 e other v.3)
-    go (inr ne) = (u, cu, lu, l, same_before t u turn.1 (apart u.p t.s lead follower) (λ e. ne (sym e)))
+        (v.0, v.1, All-contains (λ t. silent_move t ≡ false) leaf.moves v.0 is.loud v.1, (let m : leader_kind n v.0 ≤ leader_kind n u = omega (arith, zero_kind) in m), leaders_before t u v.0 turn.1 e other v.3)
+    go (inr ne) = (u, cu, lu, (let m : leader_kind n u ≤ leader_kind n u = omega arith in m), same_before t u turn.1 (apart u.p t.s lead follower) (λ e. ne (sym e)))

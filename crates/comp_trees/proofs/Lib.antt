@@ -5,6 +5,8 @@ pub mod Members
 pub mod Single
 pub mod LayerLimits
 pub mod ThreeLayers
+pub mod TameKinds
+pub mod LeaderTame
 pub mod StateNames
 pub mod HelperSums
 pub mod LeaderSums
@@ -18,3 +20,4 @@ pub mod TreeOfEnds
 pub mod SameMix
 pub mod Limits
 pub mod FilteredRanges
+pub mod Bits

@@ -15,7 +15,7 @@ use Rattle.cert_base.specs.ProofLimits.{IsSmall, IsAscending, IsTermWithin, AreT
 use Rattle.cert_base.specs.FactsAndCases.{states_of, can_meet_in, indicator}
 use Rattle.comp_trees.specs.LeaderTree.{leaders, company_of, LeaderMix, mix_of_trap, mix_of_leader, leader_nodes, leader_tree, weighed_node, no_leader_mix, no_leak_mix, no_input_mix, helped_mix, no_start_mix, IsLed}
 use Rattle.comp_trees.proofs.SameMix.{mix_short}
-use Rattle.list_laws.proofs.Ranges.{all_range}
+use Rattle.base_laws.proofs.Ranges.{all_range}
 
 terms-long : (k : ℕ) (ms : List ℤ) → length (terms_from k ms) ≤ length ms
 terms-long k [] = omega arith

@@ -6,8 +6,8 @@ use Rattle.std.proofs.lemmas.List.{append-nil}
 use Rattle.std.proofs.lemmas.List.Concat.{flat_map-append}
 use Rattle.std.proofs.lemmas.List.Elements.{All-append, All-nil, Contains-append_left, Contains-append_right}
 use Rattle.std.proofs.lemmas.List.FromFn.{length-range_with_len, get_or-range_with_len, map-range_with_len_more}
-use Rattle.list_laws.proofs.Ranges.{range_next}
-use Rattle.list_laws.proofs.Lists.{has_later, has_first}
+use Rattle.base_laws.proofs.Ranges.{range_next}
+use Rattle.base_laws.proofs.Lists.{has_later, has_first}
 
 pub all_flat : {A B : Type 0} (P : B → Type 0) (f : A → List B) (xs : List A) → All (λ x. All P (f x)) xs → All P (flat_map f xs)
 all_flat P f [] all = All-nil P

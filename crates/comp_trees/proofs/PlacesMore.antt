@@ -4,7 +4,7 @@ use Rattle.std.specs.Prelude.{Some, slice_get, if◌then◌else◌}
 use Rattle.std.proofs.lemmas.List.{length-take}
 use Rattle.std.proofs.lemmas.Option.{slice_get_within}
 use Rattle.cert_base.specs.FactsAndCases.{places_from}
-use Rattle.list_laws.proofs.Lists.{take_one_more}
+use Rattle.base_laws.proofs.Lists.{take_one_more}
 use Rattle.cert_base.proofs.Indicators.{places_from-one}
 
 -- one more item is tested

@@ -11,7 +11,7 @@ use Rattle.cert_base.specs.declared.limits.TheConstants.{TERM_LIMIT}
 use Rattle.cert_base.specs.Rows.{zeros}
 use Rattle.cert_base.specs.FactsAndCases.{states_of, can_meet_in}
 use Rattle.comp_trees.specs.LeaderTree.{company_of, LeaderMix, mix_of_trap, mix_of_leader, mix_by}
-use Rattle.list_laws.proofs.Ranges.{all_range}
+use Rattle.base_laws.proofs.Ranges.{all_range}
 
 pub map-same : {A B : Type 0} (f g : A → B) (xs : List A) → All (λ x. f x ≡ g x) xs → map f xs ≡ map g xs
 map-same f g [] all = refl

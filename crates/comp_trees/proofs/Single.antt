@@ -9,7 +9,7 @@ use Rattle.std.proofs.Math.Bool.{and-false}
 use Rattle.pop_leaf.specs.LeafModel.{same_pair}
 use Rattle.comp_trees.proofs.Members.{all_flat}
 use Rattle.comp_trees.proofs.SortedLayers.{AllPairs-append}
-use Rattle.list_laws.proofs.Ranges.{all_range}
+use Rattle.base_laws.proofs.Ranges.{all_range}
 
 pub pairs_map : {A : Type 0} (R : A → A → Type 0) (g : ℕ → A) (a n : ℕ) → ((i j : ℕ) → a ≤ i → i < j → j < a + n → R (g i) (g j)) → AllPairs R (map g (range_with_len a n))
 pairs_map R g a zero f = λ i j d l m. absurd (omega (arith, m))

@@ -112,17 +112,17 @@ pub record AreKinds (leaf : LeafModel) (kind : Move → ℕ) (ws : List (List �
   pub long : All (λ w. length w ≡ length leaf.states) ws
   pub kinds : All (λ t. kind t < length ws) leaf.moves
   pub lower : All (λ t. IsLower (get_or ws (kind t) []) t) leaf.moves
-  pub wakes : (t u : Move) → Contains leaf.moves t → Contains leaf.moves u → silent_move t ≡ false → silent_move u ≡ false → kind u < kind t → (u' : Move) × Contains leaf.moves u' × (silent_move u' ≡ false) × (kind u' < kind t) × IsEnabledBefore u' t u
+  pub wakes : (t u : Move) → Contains leaf.moves t → Contains leaf.moves u → silent_move t ≡ false → silent_move u ≡ false → kind u < kind t → (u' : Move) × Contains leaf.moves u' × (silent_move u' ≡ false) × (kind u' ≤ kind u) × IsEnabledBefore u' t u
 
 module _ (leaf : LeafModel) (kind : Move → ℕ) (ws : List (List ℤ)) (are : AreKinds leaf kind ws) where
-  abbrev layers : List Layer
+  abbrev pub layers : List Layer
   layers = sorted_layers leaf.moves kind 0 ws
 
-  got_contains : (number : ℕ) (t : Move) → slice_get leaf.moves number ≡ Some t → Contains leaf.moves t
+  pub got_contains : (number : ℕ) (t : Move) → slice_get leaf.moves number ≡ Some t → Contains leaf.moves t
   got_contains number t h = (number, slice_get_within leaf.moves number t h, get_or_from_slice_get leaf.moves number t t h)
 
   -- the kind of a move of layer i is i
-  in_layer : (i : ℕ) (t : Move) (at : IsInLayer leaf layers i t) → (kind t ≡ i) × (at.layer.weights ≡ get_or ws i [])
+  pub in_layer : (i : ℕ) (t : Move) (at : IsInLayer leaf layers i t) → (kind t ≡ i) × (at.layer.weights ≡ get_or ws i [])
   in_layer i t at =
       let within : i < length ws = omega (arith, slice_get_within layers i at.layer at.layer_is, layers_long leaf.moves kind 0 ws) in
       let layer_same : at.layer ≡ sorted_layer leaf.moves kind i (get_or ws i []) = same_Some _ _ (sym at.layer_is ∙ sorted_layer_at leaf.moves kind 0 i ws within ∙ ap (λ n. Some (sorted_layer leaf.moves kind n (get_or ws i []))) (zero-add i)) in
@@ -131,7 +131,7 @@ module _ (leaf : LeafModel) (kind : Move → ℕ) (ws : List (List ℤ)) (are : 
       let same : t ≡ of.taken = same_Some _ _ (sym at.move_is ∙ of.move_is) in
       (ap kind same ∙ of.kind_is, ap (λ (layer : Layer). layer.weights) layer_same)
 
-  has_layer : (u : Move) → Contains leaf.moves u → silent_move u ≡ false → IsInLayer leaf layers (kind u) u
+  pub has_layer : (u : Move) → Contains leaf.moves u → silent_move u ≡ false → IsInLayer leaf layers (kind u) u
   has_layer u c loud =
       let within = All-contains (λ t. kind t < length ws) leaf.moves u are.kinds c in
       let got : slice_get leaf.moves c.0 ≡ Some u = slice_get-get_or leaf.moves c.0 u c.1 ∙ ap Some c.2 in
@@ -158,5 +158,5 @@ module _ (leaf : LeafModel) (kind : Move → ℕ) (ws : List (List ℤ)) (are : 
         let ti = (in_layer i t at).0 in
         let uj = (in_layer j u au).0 in
         let w = are.wakes t u (got_contains at.number t at.move_is) (got_contains au.number u au.move_is) at.non_silent au.non_silent (omega arith) in
-        (kind w.0, w.0, (let m = w.3 in let k : kind w.0 < i = omega arith in k), has_layer w.0 w.1 w.2, w.4));
+        (kind w.0, w.0, (let k : kind w.0 < i = omega (arith, w.3, ti, uj, l) in k), has_layer w.0 w.1 w.2, w.4));
   }

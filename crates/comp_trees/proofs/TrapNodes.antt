@@ -27,7 +27,7 @@ use Rattle.cert_base.proofs.WeightedSums.{weighted_sum-append, weighted_sum-zero
 use Rattle.cert_base.proofs.FlowSums.{coefficient-dense, total-same, total-none, total-none_range, total-one, weighted_sum-map, each_variable, times-one, mul-neg}
 use Rattle.comp_trees.proofs.HelperSums.{count-all}
 use Rattle.comp_trees.proofs.LeaderEnds.{absent-at, shifted, may_weigh-eqs, apart, apart_past}
-use Rattle.list_laws.proofs.Numbers.{same_turned}
+use Rattle.base_laws.proofs.Numbers.{same_turned}
 
 -- ---- which states are leaders
 

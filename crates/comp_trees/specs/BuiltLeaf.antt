@@ -7,6 +7,7 @@ use Rattle.cert_base.specs.declared.proof.LeafProof.{LeafProof}
 use Rattle.cert_base.specs.ProofBound.{layers_bound}
 use Rattle.cert_base.specs.ValidProof.{ValidLeafProof}
 use Rattle.cert_base.specs.ProofLimits.{IsLeafProofWithin}
+use Rattle.cert_base.specs.TameLayers.{TameLayers}
 
 -- the leaf is the defined one, and the part is a valid proof of the predicate for it, which allows so many steps per
 -- agent
@@ -17,5 +18,7 @@ pub record IsBuilt (defined : LeafModel) (pred : PredModel) (steps : ℕ) (leaf 
   pub valid : ValidLeafProof leaf part
   pub bound : layers_bound part.layers ≡ steps
   pub within : IsLeafProofWithin pred.variables part
+  -- so it settles soon
+  pub tame : TameLayers leaf part.layers
   -- no two moves take the same states
   pub single : AllPairs Differ leaf.moves

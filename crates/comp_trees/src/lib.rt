@@ -2,6 +2,7 @@
 //! It stands on `cert_base`.
 //! The layer above uses: `tree`, `multipliers`, `mix`, `company`, `picked` and `layer` are the defined ones;
 //! `leader_tree-closes` says when a tree closes, and `sorted_layers-valid` when layers are valid.
+//! `two_to`, `is_set` and `power_of` are of powers of two, and `all_bits` makes a number of its bits.
 //!
 //! Agents start as leaders, and each move leaves a leader. So the leaders are a trap that is marked at the start, and
 //! one is left at the end. Any two leaders can meet, so at a terminal end there is no other. Each leader in turn is
@@ -10,11 +11,15 @@
 #![tactic(auto)]
 
 mod mixing;
+mod numbers;
 mod others;
 mod preorder;
+mod range;
 mod sorting;
 
 pub use mixing::{MULTIPLIER_LIMIT, MixParts, mix, mixed, multipliers, picked, terms, weighed};
+pub use numbers::{is_set, power_of, two_to};
 pub use others::company;
 pub use preorder::tree;
+pub use range::RANGE_LIMIT;
 pub use sorting::layer;

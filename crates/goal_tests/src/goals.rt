@@ -5,7 +5,7 @@ ghost use Rattle.cert_layers.specs.LayerFaults.{AreLayersWithin};
 ghost use Rattle.cert_sets.specs.SetFaults.{AreSetsWithin};
 
 use cert_base::Layer;
-use cert_goals::{SetFault, check_sets, check_some_layers};
+use cert_sets::{GoalMoves, SetFault, checked_sets, kept_leaf};
 use pop_io::{Failure, List};
 use pop_leaf::Leaf;
 use sample_nets::{leaf_of, list, step};
@@ -44,23 +44,18 @@ fn sets(alloc: Global, state: u16) -> Option<List<List<u16>>>
     Some(List::from_vec(sets))
 }
 
-fn bound(alloc: Global) -> Option<u64> {
-    let leaf = leaf(alloc)?;
-    let layers = layers(alloc, true)?;
-    check_some_layers(alloc, &leaf, &layers).ok()
-}
-
 /// Why the set of one state isn't good, if it isn't.
 fn fault(alloc: Global, some: bool, value: bool, state: u16) -> Option<Option<Failure<SetFault>>> {
     let leaf = leaf(alloc)?;
     let layers = layers(alloc, some)?;
     let sets = sets(alloc, state)?;
-    Some(check_sets(alloc, &leaf, &layers, value, &sets).err())
-}
-
-#[test]
-fn layers_of_some_moves(rt: HostRuntime) {
-    assert!(rt; bound(rt.alloc()) == Some(1));
+    let kept = kept_leaf(alloc, &leaf, &layers).ok()?;
+    let given = GoalMoves {
+        leaf: &leaf,
+        layers: &layers,
+        kept: &kept,
+    };
+    Some(checked_sets(alloc, &given, value, &sets).err())
 }
 
 #[test]

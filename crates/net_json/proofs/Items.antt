@@ -2,17 +2,17 @@
 use Rattle.std.proofs.Common.{◌≡◌, ℕ, ◌≤◌, ◌&&◌, Bool, true, false, List, [], ◌∷◌, ◌++◌, length, Some, option_and_then, Result, Ok, refl, sym, ap, ◌∙◌}
 use Rattle.serde_json.specs.Data.{Data}
 use Rattle.serde_json.specs.Find.{as_str}
-use Rattle.json_shape.specs.declared.fault.Why.TheVariants.{Shape}
-use Rattle.json_shape.specs.declared.fault.FormatFault.{FormatFault}
-use Rattle.json_shape.specs.declared.fault.FormatFault.TheVariants.{Broken, NoMemory}
-use Rattle.json_shape.specs.Faults.{Fault, ◌>>=◌, Says, FailsRead}
-use Rattle.json_shape.specs.Paths.{item_path}
-use Rattle.json_shape.proofs.FaultLemmas.{Fails-said}
+use Rattle.base_json.specs.declared.fault.Why.TheVariants.{Shape}
+use Rattle.base_json.specs.declared.fault.FormatFault.{FormatFault}
+use Rattle.base_json.specs.declared.fault.FormatFault.TheVariants.{Broken, NoMemory}
+use Rattle.base_json.specs.Faults.{Fault, ◌>>=◌, Says, FailsRead}
+use Rattle.base_json.specs.Paths.{item_path}
+use Rattle.base_json.proofs.FaultLemmas.{Fails-said}
 use Rattle.pop_leaf.specs.declared.item.Item.{Item}
 use Rattle.pop_leaf.specs.NetModel.{after_item, after_items, depth_operators}
 use Rattle.pop_net.specs.NetFaults.{are_low}
 use Rattle.net_json.specs.Examined.{operand_at, open_depths, item_at, combine_item}
-use Rattle.list_laws.proofs.Options.{then_itself}
+use Rattle.base_laws.proofs.Options.{then_itself}
 use Rattle.pop_net.proofs.Trees.{after_items-append}
 
 -- what the loop over the items keeps

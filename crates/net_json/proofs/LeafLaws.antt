@@ -8,14 +8,14 @@ use Rattle.std.proofs.lemmas.Bool.{and_parts, not-true}
 use Rattle.serde_json.specs.Data.{Data}
 use Rattle.serde_json.specs.Find.{as_array}
 use Rattle.pop_io.specs.Names.{state_name, AreNames}
-use Rattle.json_shape.specs.declared.fault.Why.TheVariants.{Name}
-use Rattle.json_shape.specs.Faults.{Fault, ◌>>=◌, broken}
-use Rattle.json_shape.specs.Paths.{member_path, item_path}
-use Rattle.json_shape.specs.Shapes.{of_kind, listed, object_at, member_at, member_by, number_at, text_at, item_by, each_at}
-use Rattle.json_shape.specs.Parts.{IsNumber, IsText, IsTruth, HasMember, AreItems, IsList}
-use Rattle.json_shape.proofs.Steps.{bind_ok, guard_ok, same_ok}
-use Rattle.json_shape.proofs.Readers
-use Rattle.json_shape.proofs.Fresh
+use Rattle.base_json.specs.declared.fault.Why.TheVariants.{Name}
+use Rattle.base_json.specs.Faults.{Fault, ◌>>=◌, broken}
+use Rattle.base_json.specs.Paths.{member_path, item_path}
+use Rattle.base_json.specs.Shapes.{of_kind, listed, object_at, member_at, member_by, number_at, text_at, item_by, each_at}
+use Rattle.base_json.specs.Parts.{IsNumber, IsText, IsTruth, HasMember, AreItems, IsList}
+use Rattle.base_json.proofs.Steps.{bind_ok, guard_ok, same_ok}
+use Rattle.base_json.proofs.Readers
+use Rattle.base_json.proofs.Fresh
 use Rattle.pop_leaf.specs.declared.leaf.Move.{Move}
 use Rattle.pop_leaf.specs.LeafModel.{LeafModel, IsLeaf, IsMoveBelow}
 use Rattle.pop_io.specs.declared.names.TheConstants.{VARIABLE_LIMIT}

@@ -5,9 +5,9 @@ use Rattle.serde_json.specs.Data.{Data}
 use Rattle.serde_json.specs.Find.{as_array}
 use Rattle.serde_json.specs.View.{view, items_view}
 use Rattle.serde_json.specs.declared.value.Value.{Value}
-use Rattle.json_shape.specs.declared.fault.Why.TheVariants.{Kind}
-use Rattle.json_shape.specs.Faults.{broken}
-use Rattle.json_shape.proofs.Lists.{listed_is}
+use Rattle.base_json.specs.declared.fault.Why.TheVariants.{Kind}
+use Rattle.base_json.specs.Faults.{broken}
+use Rattle.base_json.proofs.Lists.{listed_is}
 use Rattle.net_json.specs.Examined.{four_at, move_at}
 
 four_at-else : (path : List ℕ) (states : ℕ) (ds : List Data) → (length ds < 4) ⊎ (4 < length ds) → four_at path states ds ≡ broken path Kind

@@ -8,16 +8,16 @@ use Rattle.std.proofs.lemmas.Slice.Eq.{bytes_eq-Decides}
 use Rattle.serde_json.specs.Data.{Data, null, boolean, number, string, array, object}
 use Rattle.serde_json.specs.Find.{as_str}
 use Rattle.pop_io.specs.Names.{variable_name}
-use Rattle.json_shape.specs.declared.fault.Why.TheVariants.{Name, Shape}
-use Rattle.json_shape.specs.declared.fault.FormatFault.{FormatFault}
-use Rattle.json_shape.specs.declared.fault.FormatFault.TheVariants.{Broken, NoMemory}
-use Rattle.json_shape.specs.Faults.{Fault, ◌>>=◌, broken, GivesRead}
-use Rattle.json_shape.specs.Paths.{member_path, item_path}
-use Rattle.json_shape.specs.Shapes.{listed, object_at, member_at, member_by, number_at, item_by, each_at}
-use Rattle.json_shape.specs.Parts.{IsNumber, AreItems, IsList}
-use Rattle.json_shape.proofs.Steps.{bind_ok, guard_ok, same_ok}
-use Rattle.json_shape.proofs.Readers
-use Rattle.json_shape.proofs.Fresh
+use Rattle.base_json.specs.declared.fault.Why.TheVariants.{Name, Shape}
+use Rattle.base_json.specs.declared.fault.FormatFault.{FormatFault}
+use Rattle.base_json.specs.declared.fault.FormatFault.TheVariants.{Broken, NoMemory}
+use Rattle.base_json.specs.Faults.{Fault, ◌>>=◌, broken, GivesRead}
+use Rattle.base_json.specs.Paths.{member_path, item_path}
+use Rattle.base_json.specs.Shapes.{listed, object_at, member_at, member_by, number_at, item_by, each_at}
+use Rattle.base_json.specs.Parts.{IsNumber, AreItems, IsList}
+use Rattle.base_json.proofs.Steps.{bind_ok, guard_ok, same_ok}
+use Rattle.base_json.proofs.Readers
+use Rattle.base_json.proofs.Fresh
 use Rattle.pop_leaf.specs.declared.item.Item.{Item}
 use Rattle.pop_leaf.specs.declared.item.Item.TheVariants.{Leaf, Not, And, Or}
 use Rattle.pop_leaf.specs.LeafModel.{LeafModel, IsLeaf}

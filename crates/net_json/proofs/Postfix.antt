@@ -3,13 +3,13 @@ use Rattle.std.proofs.Common.{◌≡◌, ℕ, ◌≤◌, true, nat_le, List, [],
 use Rattle.std.specs.Prelude.{is_some, IsSomeAnd}
 use Rattle.std.proofs.lemmas.Bool.{and_parts, leb-true}
 use Rattle.std.proofs.lemmas.List.Elements.{All-nil, All-cons}
-use Rattle.list_laws.proofs.Options.{some_before, some_and}
+use Rattle.base_laws.proofs.Options.{some_before, some_and}
 use Rattle.pop_leaf.specs.declared.item.Item.{Item}
 use Rattle.pop_leaf.specs.NetModel.{after_items, only_one, combined, depth_operators}
 use Rattle.pop_net.specs.NetFaults.{are_low}
 use Rattle.pop_net.proofs.Trees.{after_items-append, low_decides}
 use Rattle.pop_net.proofs.Whole.{AllLow, all_low_before, one_left}
-use Rattle.json_shape.proofs.Readers.{EachFrom}
+use Rattle.base_json.proofs.Readers.{EachFrom}
 use Rattle.net_json.specs.Examined.{open_depths}
 
 -- the item has its operands, and all trees are at most 65 deep

@@ -7,9 +7,9 @@ use Rattle.std.proofs.lemmas.List.{map-append, take_all}
 use Rattle.serde_json.specs.Data.{Data, string, boolean, array, object, Members, member, no_members, put}
 use Rattle.serde_json.specs.View.{view, items_of}
 use Rattle.serde_json.specs.declared.value.Value.{Value}
-use Rattle.json_shape.specs.Shapes.{listed}
-use Rattle.json_shape.specs.Parts.{IsNumber, IsText, IsTruth, AreItems, IsList}
-use Rattle.json_shape.proofs.Put.{made}
+use Rattle.base_json.specs.Shapes.{listed}
+use Rattle.base_json.specs.Parts.{IsNumber, IsText, IsTruth, AreItems, IsList}
+use Rattle.base_json.proofs.Put.{made}
 use Rattle.pop_leaf.specs.declared.leaf.Move.{Move}
 use Rattle.pop_leaf.specs.declared.item.Item.{Item}
 use Rattle.pop_leaf.specs.declared.item.Item.TheVariants.{Leaf, Not, And, Or}
@@ -18,7 +18,7 @@ use Rattle.pop_leaf.specs.NetModel.{NetModel, IsNet, NamesBelow, number_of_helpe
 use Rattle.pop_leaf.specs.declared.limits.TheConstants.{STATE_LIMIT, LEAF_LIMIT}
 use Rattle.net_json.specs.NetFile.{IsMove, IsItem, IsLeafFile, IsNetFile}
 use Rattle.net_json.specs.Written.{number_data, list_data, texts_data, numbers_data, truths_data, move_data, item_data, leaf_data, is_helped, format_of, net_data}
-use Rattle.list_laws.proofs.Lists.{take_one_more}
+use Rattle.base_laws.proofs.Lists.{take_one_more}
 
 module _ {A : Type 0} (f : A → Data) where
   -- one more value is written

@@ -7,11 +7,11 @@ use Rattle.std.specs.Str.{bytes_eq}
 use Rattle.serde_json.specs.Data.{Data}
 use Rattle.serde_json.specs.Find.{as_array, as_str}
 use Rattle.pop_io.specs.Names.{variable_name, state_name}
-use Rattle.json_shape.specs.declared.fault.Why.TheVariants.{Kind, Name, Shape}
-use Rattle.json_shape.specs.Faults.{Fault, ◌>>=◌, broken}
-use Rattle.json_shape.specs.Paths.{member_path, item_path}
-use Rattle.json_shape.specs.Shapes.{of_kind, object_at, member_by, list_at, number_at}
-use Rattle.json_shape.specs.Shapes.{text_at, truth_at, each, each_at, listed}
+use Rattle.base_json.specs.declared.fault.Why.TheVariants.{Kind, Name, Shape}
+use Rattle.base_json.specs.Faults.{Fault, ◌>>=◌, broken}
+use Rattle.base_json.specs.Paths.{member_path, item_path}
+use Rattle.base_json.specs.Shapes.{of_kind, object_at, member_by, list_at, number_at}
+use Rattle.base_json.specs.Shapes.{text_at, truth_at, each, each_at, listed}
 use Rattle.pop_leaf.specs.declared.leaf.Move.{Move}
 use Rattle.pop_leaf.specs.declared.item.Item.{Item}
 use Rattle.pop_leaf.specs.declared.item.Item.TheVariants.{Leaf, Not, And, Or}

@@ -1,7 +1,7 @@
 -- NetFile: which JSON value is the file of which net. Members may be in any order, and others may be present.
 use Rattle.std.specs.Prelude.{◌≡◌, ◌⊎◌, ℕ, List, [], ◌∷◌, codes}
 use Rattle.serde_json.specs.Data.{Data}
-use Rattle.json_shape.specs.Parts.{IsNumber, IsText, IsTruth, HasMember, IsList}
+use Rattle.base_json.specs.Parts.{IsNumber, IsText, IsTruth, HasMember, IsList}
 use Rattle.pop_leaf.specs.declared.leaf.Move.{Move}
 use Rattle.pop_leaf.specs.declared.item.Item.{Item}
 use Rattle.pop_leaf.specs.declared.item.Item.TheVariants.{Leaf, Not, And, Or}

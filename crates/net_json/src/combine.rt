@@ -3,13 +3,13 @@
 ghost use Rattle.std.specs.Prelude.{◌≡◌, ◌≤◌, codes, true, Some, IfOk};
 ghost use Rattle.serde_json.specs.Find.{as_str};
 ghost use Rattle.serde_json.specs.View.{view};
-ghost use Rattle.json_shape.specs.Faults.{GivesRead};
-ghost use Rattle.json_shape.specs.Paths.{path_text};
-ghost use Rattle.json_shape.specs.Shapes.{member_by};
+ghost use Rattle.base_json.specs.Faults.{GivesRead};
+ghost use Rattle.base_json.specs.Paths.{path_text};
+ghost use Rattle.base_json.specs.Shapes.{member_by};
 ghost use Rattle.pop_net.specs.NetFaults.{names_below, operands_left};
 ghost use Rattle.net_json.specs.Examined.{operand_at, combine_items_at, combine_at};
 
-use json_shape::{FormatFault, Path, Why, broken, list_of, member_of, number_of};
+use base_json::{FormatFault, Path, Why, broken, list_of, member_of, number_of};
 use pop_io::List;
 use pop_net::{ITEM_LIMIT, Item, OpenTrees};
 use serde_json::Value;

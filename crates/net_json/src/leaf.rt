@@ -2,12 +2,12 @@
 
 ghost use Rattle.std.specs.Prelude.{◌-◌, ◌≤◌, codes};
 ghost use Rattle.serde_json.specs.View.{view};
-ghost use Rattle.json_shape.specs.Faults.{GivesRead};
-ghost use Rattle.json_shape.specs.Paths.{path_text};
-ghost use Rattle.json_shape.specs.Shapes.{member_by, number_at};
+ghost use Rattle.base_json.specs.Faults.{GivesRead};
+ghost use Rattle.base_json.specs.Paths.{path_text};
+ghost use Rattle.base_json.specs.Shapes.{member_by, number_at};
 ghost use Rattle.net_json.specs.Examined.{move_at, leaf_moves_at, leaf_states_at, outputs_at};
 
-use json_shape::{FormatFault, Path, ReadItem, Why, broken, each_in, number_of, truth_of};
+use base_json::{FormatFault, Path, ReadItem, Why, broken, each_in, number_of, truth_of};
 use pop_io::List;
 use pop_net::{MOVE_LIMIT, Move, STATE_LIMIT};
 use serde_json::Value;

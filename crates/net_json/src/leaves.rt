@@ -2,16 +2,16 @@
 
 ghost use Rattle.std.specs.Prelude.{◌≡◌, ◌≤◌, codes, length, IfOk};
 ghost use Rattle.serde_json.specs.View.{view};
-ghost use Rattle.json_shape.specs.Faults.{GivesRead};
-ghost use Rattle.json_shape.specs.Paths.{path_text};
-ghost use Rattle.json_shape.specs.Shapes.{member_by};
+ghost use Rattle.base_json.specs.Faults.{GivesRead};
+ghost use Rattle.base_json.specs.Paths.{path_text};
+ghost use Rattle.base_json.specs.Shapes.{member_by};
 ghost use Rattle.net_json.specs.Examined.{helpers_allowed, helpers_at, leaf_at, leaves_at};
 ghost use Rattle.net_json.specs.HelperRange.{IsHelperRange};
 
 use crate::format::PLAIN_FORMAT;
 use crate::leaf::{moves_of, outputs_of, states_of};
 use crate::names::{NameForm, names_of};
-use json_shape::{FormatFault, Path, ReadItem, each_in, object_of};
+use base_json::{FormatFault, Path, ReadItem, each_in, object_of};
 use pop_io::{List, VARIABLE_LIMIT};
 use pop_net::{HELPER_LIMIT, LEAF_LIMIT, Leaf, STATE_LIMIT};
 use serde_json::Value;

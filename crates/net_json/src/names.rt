@@ -2,13 +2,13 @@
 
 ghost use Rattle.std.specs.Prelude.{◌≡◌, ◌≤◌, length, IfOk};
 ghost use Rattle.serde_json.specs.View.{view};
-ghost use Rattle.json_shape.specs.Faults.{GivesRead};
-ghost use Rattle.json_shape.specs.Paths.{path_text};
-ghost use Rattle.json_shape.specs.Shapes.{member_by};
+ghost use Rattle.base_json.specs.Faults.{GivesRead};
+ghost use Rattle.base_json.specs.Paths.{path_text};
+ghost use Rattle.base_json.specs.Shapes.{member_by};
 ghost use Rattle.net_json.specs.NameForms.{form_of};
 ghost use Rattle.net_json.specs.Examined.{names_at};
 
-use json_shape::{FormatFault, Path, ReadItem, Why, broken, each_in, text_of};
+use base_json::{FormatFault, Path, ReadItem, Why, broken, each_in, text_of};
 use pop_io::{List, Text, is_among, is_state_name, is_variable_name};
 use serde_json::Value;
 use std::alloc::Global;

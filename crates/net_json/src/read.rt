@@ -2,9 +2,9 @@
 
 ghost use Rattle.std.specs.Prelude.{◌≡◌, [], codes, IfErr, IfOk, None};
 ghost use Rattle.serde_json.specs.View.{view};
-ghost use Rattle.json_shape.specs.Faults.{GivesRead};
-ghost use Rattle.json_shape.specs.Paths.{path_text};
-ghost use Rattle.json_shape.specs.Shapes.{member_by, number_at};
+ghost use Rattle.base_json.specs.Faults.{GivesRead};
+ghost use Rattle.base_json.specs.Paths.{path_text};
+ghost use Rattle.base_json.specs.Shapes.{member_by, number_at};
 ghost use Rattle.pop_leaf.specs.NetModel.{IsNet, NetModel};
 ghost use Rattle.pop_net.specs.NetFaults.{first_wide_leaf};
 ghost use Rattle.net_json.specs.Examined.{fitting_net, net_at};
@@ -15,7 +15,7 @@ use crate::combine::combine_of;
 use crate::format::{HELPER_FORMAT, PLAIN_FORMAT};
 use crate::leaves::leaves_of;
 use crate::names::{NameForm, names_of};
-use json_shape::{FormatFault, Path, Why, broken, member_of, number_of, object_of};
+use base_json::{FormatFault, Path, Why, broken, member_of, number_of, object_of};
 use pop_io::{List, Text, VARIABLE_LIMIT};
 use pop_net::{Item, Leaf, Net, wide_leaf};
 use serde_json::Value;

@@ -11,7 +11,7 @@ ghost use Rattle.net_json.specs.Written.{item_data};
 ghost use Rattle.net_json.specs.Written.{leaf_data, format_of, is_helped, net_data};
 
 use crate::format::{HELPER_FORMAT, PLAIN_FORMAT};
-use json_shape::put_made;
+use base_json::put_made;
 use pop_io::{NoMemory, Text};
 use pop_net::{Item, Leaf, Move, Net};
 use serde_json::{Map, Value, put};

@@ -12,8 +12,8 @@ use Rattle.agent_field.specs.declared.view.Logged.{Logged}
 use Rattle.agent_field.specs.History.{IsHistory, calls, calls_from, logged, listed_if}
 use Rattle.agent_field.specs.Seats.{log_of, taken_of}
 use Rattle.pair_workers.specs.declared.work.Worker.{Worker}
-use Rattle.pair_runs.specs.Run.{meetings_of, pairs}
-use Rattle.pair_runs.specs.Turns.{HasPicked, ArePlayed}
+use Rattle.run_picks.specs.Run.{meetings_of, pairs}
+use Rattle.run_picks.specs.Turns.{HasPicked, ArePlayed}
 use Rattle.pair_workers.specs.Work.{HasMade, HasWorked, IsReady, IsDone, AreReady, AreDone, HasAll, agents_of_field, pairs_of}
 use Rattle.pop_crowd.proofs.Reached.{length-replay}
 

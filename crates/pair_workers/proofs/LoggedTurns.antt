@@ -3,9 +3,9 @@ use Rattle.std.proofs.Common.{◌≡◌, ℕ, suc, ◌+◌, Bool, List, [], ◌�
 use Rattle.std.proofs.lemmas.List.{map-append}
 use Rattle.agent_field.specs.declared.view.Logged.{Logged}
 use Rattle.agent_field.specs.History.{logged}
-use Rattle.pair_runs.specs.Picks.{picks_from, words_from}
-use Rattle.pair_runs.specs.Turns.{HasPicked}
-use Rattle.pair_runs.proofs.Turns.{picked_more}
+use Rattle.run_picks.specs.Picks.{picks_from, words_from}
+use Rattle.run_picks.specs.Turns.{HasPicked}
+use Rattle.run_picks.proofs.Turns.{picked_more}
 use Rattle.pair_workers.specs.Work.{pairs_of}
 
 -- one more turn

@@ -4,8 +4,8 @@ use Rattle.pop_leaf.specs.NetModel.{NetModel}
 use Rattle.pop_net.specs.Lanes.{crowd_of, AreValid}
 use Rattle.pop_net.specs.declared.net.Word.{Word}
 use Rattle.agent_field.specs.declared.close.Round.{Round}
-use Rattle.pair_runs.specs.declared.alone.TheConstants.{ROUND_TURNS}
-use Rattle.pair_runs.specs.Turns.{ArePlayed}
+use Rattle.run_picks.specs.declared.alone.TheConstants.{ROUND_TURNS}
+use Rattle.run_picks.specs.Turns.{ArePlayed}
 use Rattle.pair_workers.specs.declared.round_end.RoundEnd.{RoundEnd}
 
 -- a round can be made from this crowd: there is a picker for each worker, and no more turns than a round has

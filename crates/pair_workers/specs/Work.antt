@@ -8,8 +8,8 @@ use Rattle.agent_field.specs.declared.view.Logged.{Logged}
 use Rattle.agent_field.specs.Seats.{IsOpened, IsSeatOf, IsFresh, IsWhole, KeepsOwn, KeepsRest, opening_of, seats_of}
 use Rattle.agent_field.specs.Seats.{seat_number, next_of, left_of, log_of, spare_of, taken_of}
 use Rattle.pair_workers.specs.declared.work.Worker.{Worker}
-use Rattle.pair_runs.specs.CrowdSize.{IsCrowdSize}
-use Rattle.pair_runs.specs.Turns.{HasPicked}
+use Rattle.run_picks.specs.CrowdSize.{IsCrowdSize}
+use Rattle.run_picks.specs.Turns.{HasPicked}
 
 abbrev pub pairs_of : List Logged → List (ℕ × ℕ)
 pairs_of log = map (λ e. (e.a, e.b)) log

@@ -2,16 +2,16 @@
 
 ghost use Rattle.std.specs.Prelude.{◌≡◌, IfOk};
 ghost use Rattle.pop_net.specs.Lanes.{crowd_of};
-ghost use Rattle.pair_runs.specs.OneRun.{IsOnlyRun};
-ghost use Rattle.pair_runs.specs.Ends.{CanMakeRun, IsRunFrom};
+ghost use Rattle.run_picks.specs.OneRun.{IsOnlyRun};
+ghost use Rattle.run_picks.specs.Ends.{CanMakeRun, IsRunFrom};
 
 use crate::round::next_round;
 use crate::round_start::RoundStart;
 use agent_field::Layout;
-use pair_runs::{ROUND_TURNS, RunContext, RunEnd, end_of, first_pickers, goes_on};
 use pop_crowd::Crowd;
 use pop_io::{Gate, List, NoMemory};
 use pop_net::Net;
+use run_picks::{ROUND_TURNS, RunContext, RunEnd, end_of, first_pickers, goes_on};
 use run_spec::RunSpec;
 use std::alloc::Global;
 use std::sync::Wait;

@@ -3,7 +3,7 @@
 ghost use Rattle.std.specs.Prelude.{◌≡◌, All, IfOk, MatchResult};
 ghost use Rattle.agent_field.specs.Layouts.{Serves};
 ghost use Rattle.run_spec.specs.RunLimits.{IsWithinLimits};
-ghost use Rattle.pair_runs.specs.CrowdSize.{IsCrowdSize};
+ghost use Rattle.run_picks.specs.CrowdSize.{IsCrowdSize};
 ghost use Rattle.pair_workers.specs.WholeRounds.{CanMakeRound, IsRoundFrom, IsWholeRound};
 ghost use Rattle.pair_workers.specs.Work.{MayWork, HasWorked, HaveWorked, agents_of_field};
 
@@ -14,10 +14,10 @@ use crate::shift::Shift;
 use crate::signals::Signals;
 use crate::work::{Worker, work, work_all};
 use agent_field::{Field, Layout, Round};
-use pair_runs::{Picker, RunContext, play_round};
 use pop_crowd::Crowd;
 use pop_io::{Gate, List, NoMemory};
 use pop_net::Net;
+use run_picks::{Picker, RunContext, play_round};
 use run_spec::RunSpec;
 use std::alloc::Global;
 use std::sync::Wait;

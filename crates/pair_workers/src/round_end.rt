@@ -1,7 +1,7 @@
 //! What a round leaves.
 
-use pair_runs::Picker;
 use pop_crowd::{Crowd, Meeting};
+use run_picks::Picker;
 
 /// The meetings of a round, the crowd after them, and the workers' pickers.
 #[derive(Drop)]

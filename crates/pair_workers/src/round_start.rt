@@ -1,7 +1,7 @@
 //! What a round begins with.
 
-use pair_runs::Picker;
 use pop_crowd::Crowd;
+use run_picks::Picker;
 
 /// A crowd, the workers' pickers, and how many turns each worker makes.
 #[derive(Drop)]

@@ -9,9 +9,9 @@ ghost use Rattle.pair_workers.specs.Work.{IsFirstSeat, HasSeated, HasDealt, HasA
 use crate::round_start::RoundStart;
 use crate::work::Worker;
 use agent_field::{Field, FieldSeat, Layout, SEAT_LIMIT};
-use pair_runs::{Picker, ROUND_TURNS};
 use pop_io::{NoMemory, SHARD_LIMIT};
 use pop_net::Net;
+use run_picks::{Picker, ROUND_TURNS};
 use std::alloc::Global;
 use std::sync::Wait;
 

@@ -1,13 +1,13 @@
 //! One worker's turns on the field, and those of all.
 
 ghost use Rattle.std.specs.Prelude.{All};
-ghost use Rattle.pair_runs.specs.CrowdSize.{IsCrowdSize};
+ghost use Rattle.run_picks.specs.CrowdSize.{IsCrowdSize};
 ghost use Rattle.pair_workers.specs.Work.{MayWork, HasWorked, HaveWorked, agents_of_field};
 
 use crate::shift::Shift;
 use agent_field::{Field, FieldSeat};
-use pair_runs::Picker;
 use pop_io::Gate;
+use run_picks::Picker;
 use std::sync::Wait;
 use std::thread;
 use std::thread::Threads;

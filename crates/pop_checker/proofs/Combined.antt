@@ -10,7 +10,7 @@ use Rattle.pop_leaf.specs.NetModel.{after_item, after_items, only_one, combined,
 use Rattle.pop_net.proofs.Trees.{after_items-append}
 use Rattle.cert_base.specs.declared.proof.LeafProof.{LeafProof}
 use Rattle.pop_checker.specs.Combination.{leaf_trees, open_after, IsBegin}
-use Rattle.list_laws.proofs.Options.{then_itself, item_within}
+use Rattle.base_laws.proofs.Options.{then_itself, item_within}
 
 module _ (parts : List LeafProof) (items : List Item) where
   -- the trees after one more item

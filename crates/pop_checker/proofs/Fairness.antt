@@ -18,10 +18,10 @@ use Rattle.pop_crowd.specs.declared.crowd.Meeting.{Meeting as Pair}
 use Rattle.pop_crowd.specs.Replay.{replay, IsMeeting, AreMeetings}
 use Rattle.pop_crowd.proofs.Reached.{length-after_meeting}
 use Rattle.cert_base.proofs.InRange.{end_in_range}
-use Rattle.pop_fair.specs.StablyComputes.{MeetingStep, StablyComputes}
-use Rattle.pop_fair.proofs.Stable.{steps_compute, meetings_compute}
+use Rattle.theory_fair.specs.StablyComputes.{MeetingStep, StablyComputes}
+use Rattle.theory_fair.proofs.Stable.{steps_compute, meetings_compute}
 use Rattle.pop_checker.specs.Computes.{Computes, EndsByMeetings}
-use Rattle.pop_fair.proofs.Standing.{size_of_input}
+use Rattle.theory_fair.proofs.Standing.{size_of_input}
 
 pub steps_fairly : (net : NetModel) (tree : PredTree) (k : ℕ) → Computes net tree k → StablyComputes (Step net) net tree
 steps_fairly net tree k computes =

@@ -15,9 +15,9 @@ use Rattle.pop_leaf.proofs.Quiet.{leaf_quiet}
 use Rattle.pop_leaf.proofs.Reactions.{and_left, and_right}
 use Rattle.cert_base.specs.declared.layer.Layer.{Layer}
 use Rattle.cert_base.specs.ValidLayers.{moves_of_layers, IsInLayer, ValidLayers}
-use Rattle.pop_fair.specs.Synchronous.{LeafReacts}
-use Rattle.pop_fair.proofs.Synchronous.{takes_followed, none_found, found_move}
-use Rattle.net_laws.proofs.Moves.{IsSingleLeaf}
+use Rattle.theory_fair.specs.Synchronous.{LeafReacts}
+use Rattle.theory_fair.proofs.Synchronous.{takes_followed, none_found, found_move}
+use Rattle.theory_nets.proofs.Moves.{IsSingleLeaf}
 
 -- ---- find in a list of lists
 

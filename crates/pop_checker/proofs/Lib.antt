@@ -15,3 +15,11 @@ pub mod Verdicts
 pub mod RightEnds
 pub mod MajorityProof
 pub mod Combined
+pub mod OneTame
+pub mod LeafKinds
+mod StableFirsts
+mod OneSetFault
+mod OneGoalFault
+pub mod OneStableFault
+pub mod StableSound
+pub mod SilentParts

@@ -21,7 +21,7 @@ use Rattle.cert_base.specs.declared.proof.LeafProof.{LeafProof}
 use Rattle.cert_base.specs.declared.proof.Proof.{Proof}
 use Rattle.cert_base.specs.ValidLayers.{moves_of_layers, IsLower, IsInLayer, IsEnabledBefore, ValidLayers}
 use Rattle.cert_base.specs.ValidProof.{ValidLeafProof, ValidProof}
-use Rattle.tree_faults.proofs.ClosedWalk.{unrefused-Closes}
+use Rattle.cert_tree.proofs.ClosedWalk.{unrefused-Closes}
 use Rattle.pop_net.specs.ExampleNets.{move, majority_leaf, majority}
 use Rattle.pop_checker.specs.Majority.{more_of_x, MajorityComputes}
 use Rattle.pop_checker.specs.Sound.{ArePreds}

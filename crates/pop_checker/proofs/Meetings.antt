@@ -12,10 +12,10 @@ use Rattle.pop_net.proofs.Projection.{component}
 use Rattle.pop_crowd.specs.declared.crowd.Meeting.{Meeting}
 use Rattle.pop_crowd.specs.Replay.{replay, IsMeeting, AreMeetings}
 use Rattle.pop_crowd.proofs.Reached.{length-after_meeting}
-use Rattle.pop_fair.specs.StablyComputes.{Reacts, MeetingStep}
-use Rattle.pop_fair.proofs.Reached.{reacts_changes}
-use Rattle.net_laws.proofs.Led.{lead_way}
-use Rattle.net_laws.proofs.Moves.{IsSingleLeaf, meeting_can}
+use Rattle.theory_fair.specs.StablyComputes.{Reacts, MeetingStep}
+use Rattle.theory_fair.proofs.Reached.{reacts_changes}
+use Rattle.theory_nets.proofs.Led.{lead_way}
+use Rattle.theory_nets.proofs.Moves.{IsSingleLeaf, meeting_can}
 
 -- the meeting that makes a step
 abbrev meeting_of : ℕ → ℕ → Meeting

@@ -25,8 +25,8 @@ use Rattle.cert_base.specs.ValidLayers.{ValidLayers}
 use Rattle.cert_base.proofs.Agents.{InRange}
 use Rattle.cert_base.proofs.InRange.{leads_in_range, input_in_range}
 use Rattle.cert_layers.proofs.Termination.{valid_layers-end, leads-append}
-use Rattle.list_laws.proofs.Numbers.{Tells}
-use Rattle.list_laws.proofs.Options.{same_value}
+use Rattle.base_laws.proofs.Numbers.{Tells}
+use Rattle.base_laws.proofs.Options.{same_value}
 
 -- at each leaf each agent has a state of the leaf
 abbrev pub InRanges : NetModel → CrowdModel → Type 0

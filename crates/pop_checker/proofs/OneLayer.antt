@@ -8,7 +8,7 @@ use Rattle.std.proofs.lemmas.List.{length-map}
 use Rattle.std.proofs.lemmas.List.Elements.{All-head, All-tail, All-map, All-weaker}
 use Rattle.std.proofs.lemmas.List.Sums.{sum_by-cons}
 use Rattle.std.proofs.lemmas.Option.{slice_get_within}
-use Rattle.list_laws.proofs.Lists.{heads, tails}
+use Rattle.base_laws.proofs.Lists.{heads, tails}
 use Rattle.pres_ast.specs.PredTree.{PredTree}
 use Rattle.pres_ast.specs.PredModel.{PredModel}
 use Rattle.pop_leaf.specs.LeafModel.{LeafModel, IsLeaf}
@@ -16,7 +16,6 @@ use Rattle.pop_leaf.specs.NetModel.{NetModel, CrowdModel, IsTuple, HasStates, Is
 use Rattle.pop_leaf.specs.InputCrowd.{IsInput, input_crowd}
 use Rattle.pop_leaf.specs.Step.{LeafMove, LeafChange, TupleChange, Step, LeafStep}
 use Rattle.pop_leaf.specs.Reachable.{Leads, Reachable}
-use Rattle.pop_leaf.specs.Terminal.{IsTerminal}
 use Rattle.pop_net.proofs.Projection.{component, step_component}
 use Rattle.pop_leaf.proofs.Quiet.{All-slice_get, set_same, same_tuple}
 use Rattle.pop_net.proofs.Tuples.{leads_length, reachable_tuples, input_tuples}
@@ -27,19 +26,16 @@ use Rattle.cert_base.specs.declared.proof.Proof.{Proof}
 use Rattle.cert_base.specs.ValidProof.{ValidProof}
 use Rattle.pop_crowd.specs.declared.crowd.Meeting.{Meeting}
 use Rattle.pop_crowd.specs.Replay.{changes, change_count, IsMeeting, AreMeetings}
-use Rattle.pop_fair.proofs.Reached.{leads_one_more}
+use Rattle.theory_fair.proofs.Reached.{leads_one_more}
 use Rattle.cert_base.specs.ProofBound.{weights_spread, layers_bound, proof_bound}
 use Rattle.cert_base.specs.ValidLayers.{IsInLayer, IsLower, ValidLayers}
 use Rattle.cert_base.proofs.Integers.{add-mul}
 use Rattle.cert_base.proofs.WeightBounds.{within, total-above, total-below}
 use Rattle.cert_base.proofs.Weights.{total, total_falls}
-use Rattle.pop_random.specs.RandomMeetings.{meet}
-use Rattle.pop_random.specs.ComputesAlmostSurely.{ComputesInCubicTime}
-use Rattle.pop_random.specs.Laws.{IsPair, FallsByPairs}
-use Rattle.pop_random.proofs.Pairs.{has_pair}
-use Rattle.pop_random.proofs.Settled.{meets_step, unmoved_by, terminal_or_changes}
-use Rattle.pop_random.proofs.AlmostSurely.{cubic_time}
-use Rattle.pop_checker.specs.Computes.{Computes}
+use Rattle.theory_random.specs.RandomMeetings.{meet}
+use Rattle.theory_random.specs.Laws.{IsPair}
+use Rattle.theory_random.proofs.Pairs.{has_pair}
+use Rattle.theory_random.proofs.Settled.{meets_step, unmoved_by}
 use Rattle.pop_checker.specs.Changes.{ChangingStep, ChangesAtMost}
 use Rattle.pop_checker.proofs.Settles.{bound_of}
 use Rattle.pop_checker.proofs.Fairness.{reached_states}
@@ -244,34 +240,6 @@ module _ (net : NetModel) (tree : PredTree) (parts : List LeafProof) (is : IsNet
             All-map (λ (q : ℕ). q < length leaf.states) (λ tuple. state_of tuple i) crowd
             (All-weaker (HasStates net) (λ tuple. state_of tuple i < length leaf.states) (λ tuple has. has i leaf h) crowd (states_after crowd r))
 
-    never_rises : (p : ℕ × ℕ) → IsPair (length crowd) p → heights parts 0 (meet net p crowd) ≤ heights parts 0 crowd
-    never_rises p pair = go (meeting_falls p pair)
-      where
-        go : (heights parts 0 (meet net p crowd) < heights parts 0 crowd) ⊎ ((heights parts 0 (meet net p crowd) ≡ heights parts 0 crowd) × (meet net p crowd ≡ crowd)) → heights parts 0 (meet net p crowd) ≤ heights parts 0 crowd
-        go (inl low) = omega (arith, low)
-        go (inr rest) = let same = rest.0 in omega (arith, same)
-
-    lowered : IsTerminal (Step net) crowd ⊎ ((p : ℕ × ℕ) × IsPair (length crowd) p × (heights parts 0 (meet net p crowd) < heights parts 0 crowd))
-    lowered = go (terminal_or_changes net crowd tuples)
-      where
-        by : (p : ℕ × ℕ) → IsPair (length crowd) p → changes net p.0 p.1 crowd ≡ true → (heights parts 0 (meet net p crowd) < heights parts 0 crowd) ⊎ ((heights parts 0 (meet net p crowd) ≡ heights parts 0 crowd) × (meet net p crowd ≡ crowd)) → IsTerminal (Step net) crowd ⊎ ((p : ℕ × ℕ) × IsPair (length crowd) p × (heights parts 0 (meet net p crowd) < heights parts 0 crowd))
-        by p pair changed (inl low) = inr (p, pair, low)
-        by p pair changed (inr rest) =
-            let no = unmoved_by net crowd tuples p pair rest.1 in
-            absurd (let b : true ≡ false = sym changed ∙ no in cc)
-
-        go : IsTerminal (Step net) crowd ⊎ ((p : ℕ × ℕ) × IsPair (length crowd) p × (changes net p.0 p.1 crowd ≡ true)) → IsTerminal (Step net) crowd ⊎ ((p : ℕ × ℕ) × IsPair (length crowd) p × (heights parts 0 (meet net p crowd) < heights parts 0 crowd))
-        go (inl terminal) = inl terminal
-        go (inr (p, pair, changed)) = by p pair changed (meeting_falls p pair)
-
-    falling : (k : ℕ) → Computes net tree k → FallsByPairs net tree (bound_of parts) (heights parts 0) counts crowd
-    falling k computes = record {
-      low = low_here;
-      falls = never_rises;
-      lowered = lowered;
-      right = (computes counts crowd input r).right;
-    }
-
   module _ (counts : List ℕ) (input : IsInput (length net.variables) (number_of_helpers net) counts) where
     reached_by : (crowd next : CrowdModel) → Reachable (Step net) (input_crowd net counts) crowd → Step net crowd next → Reachable (Step net) (input_crowd net counts) next
     reached_by crowd next r step =
@@ -334,9 +302,3 @@ module _ (net : NetModel) (p : PredModel) (proof : Proof) (is : IsNet net) (v : 
   -- at most so many steps per agent change the crowd
   pub one_layer_changes : ChangesAtMost net (proof_bound proof)
   one_layer_changes = few_changes net p.tree proof.leaves is v.one_each has_one
-
-  -- the expected number of meetings is at most cubic
-  pub one_layer_cubic : (k : ℕ) → Computes net p.tree k → ComputesInCubicTime net p.tree (proof_bound proof)
-  one_layer_cubic k computes =
-      cubic_time net p.tree (proof_bound proof) (heights proof.leaves 0)
-      (λ counts crowd input r. falling net p.tree proof.leaves is v.one_each has_one counts input crowd r k computes)

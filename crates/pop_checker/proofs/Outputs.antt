@@ -22,7 +22,7 @@ use Rattle.cert_base.specs.Ends.{EndsRight}
 use Rattle.pop_checker.specs.Computes.{Computes}
 use Rattle.pop_checker.specs.Parts.{IsRightPart, AreRightBefore}
 use Rattle.pop_checker.proofs.NetEnds.{valid_ends}
-use Rattle.net_laws.proofs.Combined.{agent_right}
+use Rattle.theory_nets.proofs.Combined.{agent_right}
 
 right_for : (leaf : LeafModel) (part : LeafProof) → IsRightPart leaf part → (b : Bool) → EndsRight leaf part.pred.tree b
 right_for leaf part right true = right.on_true

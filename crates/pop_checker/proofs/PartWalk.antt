@@ -7,7 +7,7 @@ use Rattle.pop_io.specs.Failures.{Names}
 use Rattle.pop_leaf.specs.LeafModel.{LeafModel}
 use Rattle.pop_leaf.specs.NetModel.{NetModel}
 use Rattle.cert_layers.proofs.Bounds.{bound_more}
-use Rattle.net_laws.proofs.LeafByLeaf.{HoldBefore, one_more, part_at}
+use Rattle.theory_nets.proofs.LeafByLeaf.{HoldBefore, one_more, part_at}
 
 module _ {P : Type 0} (Holds : LeafModel → P → Type 0) (bound_of : P → ℕ) (net : NetModel) (parts : List P) where
   -- the parts before this place hold, and the bound is the sum of theirs

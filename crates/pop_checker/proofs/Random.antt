@@ -11,12 +11,12 @@ use Rattle.pop_leaf.specs.Reaction.{after_meeting}
 use Rattle.pop_net.proofs.Tuples.{leads_length, reachable_tuples, input_tuples}
 use Rattle.pop_crowd.specs.declared.crowd.Meeting.{Meeting as Pair}
 use Rattle.pop_crowd.specs.Replay.{replay}
-use Rattle.pop_fair.proofs.Standing.{size_of_input}
-use Rattle.pop_random.specs.UniformRuns.{after_run}
-use Rattle.pop_random.specs.RandomMeetings.{meet}
-use Rattle.pop_random.specs.ComputesAlmostSurely.{ComputesAlmostSurely}
-use Rattle.pop_random.specs.Laws.{IsPair}
-use Rattle.pop_random.proofs.AlmostSurely.{compute}
+use Rattle.theory_fair.proofs.Standing.{size_of_input}
+use Rattle.theory_random.specs.UniformRuns.{after_run}
+use Rattle.theory_random.specs.RandomMeetings.{meet}
+use Rattle.theory_random.specs.ComputesAlmostSurely.{ComputesAlmostSurely}
+use Rattle.theory_random.specs.Laws.{IsPair}
+use Rattle.theory_random.proofs.AlmostSurely.{compute}
 use Rattle.pop_checker.specs.Computes.{Computes, EndsByMeetings}
 use Rattle.pop_checker.proofs.Fairness.{reached_states}
 

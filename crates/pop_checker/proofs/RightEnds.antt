@@ -12,7 +12,7 @@ use Rattle.cert_base.specs.Ends.{EndsRight}
 use Rattle.cert_base.specs.ValidProof.{ValidProof}
 use Rattle.cert_base.proofs.WrongEnds.{wrong_ends-met}
 use Rattle.cert_tree.proofs.ClosedEnds.{base_formed, closes_none}
-use Rattle.tree_faults.proofs.Verdicts.{ends_right}
+use Rattle.cert_tree.proofs.Verdicts.{ends_right}
 use Rattle.pop_checker.specs.Sound.{ArePreds, IsSound}
 use Rattle.pop_checker.specs.Parts.{AreRightBefore}
 use Rattle.pop_checker.proofs.Verdicts.{right_by}

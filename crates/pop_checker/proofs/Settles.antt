@@ -31,7 +31,7 @@ use Rattle.cert_base.proofs.Agents.{InRange}
 use Rattle.cert_base.proofs.InRange.{leads_in_range}
 use Rattle.cert_layers.proofs.Termination.{valid_layers-end}
 use Rattle.pop_checker.specs.Computes.{EndsByMeetings}
-use Rattle.net_laws.proofs.Moves.{IsSingleLeaf}
+use Rattle.theory_nets.proofs.Moves.{IsSingleLeaf}
 use Rattle.pop_checker.proofs.Meetings.{meet_way}
 
 -- a leaf that is single, and its valid layers

@@ -26,13 +26,13 @@ use Rattle.cert_base.specs.declared.proof.LeafProof.{LeafProof}
 use Rattle.cert_base.specs.declared.proof.Proof.{Proof}
 use Rattle.cert_base.specs.ValidLayers.{ValidLayers}
 use Rattle.cert_base.specs.ValidProof.{ValidProof}
-use Rattle.pop_fair.specs.StablyComputes.{StablyComputes}
-use Rattle.pop_fair.specs.Synchronous.{AllReact, SynchronousStep}
-use Rattle.pop_fair.proofs.Standing.{size_of_input}
-use Rattle.pop_fair.proofs.Synchronous.{synchronous_compute}
-use Rattle.pop_random.proofs.Settled.{unmoved}
+use Rattle.theory_fair.specs.StablyComputes.{StablyComputes}
+use Rattle.theory_fair.specs.Synchronous.{AllReact, SynchronousStep}
+use Rattle.theory_fair.proofs.Standing.{size_of_input}
+use Rattle.theory_fair.proofs.Synchronous.{synchronous_compute}
+use Rattle.theory_random.proofs.Settled.{unmoved}
 use Rattle.pop_checker.specs.Computes.{Computes, EndsByMeetings}
-use Rattle.net_laws.proofs.Moves.{IsSingleLeaf}
+use Rattle.theory_nets.proofs.Moves.{IsSingleLeaf}
 use Rattle.pop_checker.proofs.Settles.{bound_of, settles}
 use Rattle.pop_checker.proofs.Fairness.{reached_states}
 use Rattle.pop_checker.proofs.LeastMoves.{least_leaf, least_is_leaf, least_single, least_valid, least_reacts, least_quiet}

@@ -22,7 +22,8 @@ use Rattle.pop_checker.proofs.Settles.{valid_settles}
 use Rattle.pop_checker.proofs.Fairness.{steps_fairly, meetings_fairly}
 use Rattle.pop_checker.proofs.Synchronous.{synchronous_fairly}
 use Rattle.pop_checker.proofs.Random.{meetings_randomly}
-use Rattle.pop_checker.proofs.OneLayer.{one_layer_changes, one_layer_cubic}
+use Rattle.theory_tame.proofs.Nets.{tame_cubic}
+use Rattle.pop_checker.proofs.OneLayer.{one_layer_changes}
 
 -- a net whose proof is right computes the predicate
 pub right_by : (net : NetModel) (p : PredModel) (proof : Proof) → IsNet net → ValidProof net p proof → AreRightBefore net proof.leaves (length net.leaves) → IsRight net p proof
@@ -35,7 +36,12 @@ right_by net p proof is valid right =
       fair_meetings = λ single. meetings_fairly net p.tree (proof_bound proof) is (computed net p proof is valid right) (valid_settles net p proof is valid single);
       random = λ single. meetings_randomly net p.tree (proof_bound proof) is (computed net p proof is valid right) (valid_settles net p proof is valid single);
       changes = λ one. one_layer_changes net p proof is valid one;
-      cubic = λ one. one_layer_cubic net p proof is valid one (proof_bound proof) (computed net p proof is valid right);
+      cubic = λ tame. tame_cubic net p.tree proof is
+          (record {
+            one_each = valid.one_each;
+            each = λ i leaf part h g. record { valid = (valid.leaves i leaf part h g).layers; tame = tame i leaf part h g };
+          })
+          (λ counts crowd input r. (computed net p proof is valid right counts crowd input r).right);
     }
 
 -- a net whose proof is right is checked

@@ -4,9 +4,9 @@ use Rattle.pres_ast.specs.PredModel.{PredModel}
 use Rattle.pop_leaf.specs.NetModel.{NetModel}
 use Rattle.pop_leaf.specs.Reaction.{IsSingle}
 use Rattle.pop_leaf.specs.Step.{Step}
-use Rattle.pop_fair.specs.StablyComputes.{MeetingStep, StablyComputes}
-use Rattle.pop_fair.specs.Synchronous.{SynchronousStep}
-use Rattle.pop_random.specs.ComputesAlmostSurely.{ComputesAlmostSurely}
+use Rattle.theory_fair.specs.StablyComputes.{MeetingStep, StablyComputes}
+use Rattle.theory_fair.specs.Synchronous.{SynchronousStep}
+use Rattle.theory_random.specs.ComputesAlmostSurely.{ComputesAlmostSurely}
 use Rattle.pop_checker.specs.Computes.{Computes, EndsByMeetings}
 
 pub record CheckedModel : Type 0 where

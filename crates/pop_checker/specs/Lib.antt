@@ -7,3 +7,9 @@ pub mod Sound
 pub mod Checks
 pub mod Majority
 pub mod Combination
+pub mod TameEach
+pub mod ValidStable
+pub mod Silent
+pub mod StableRejections
+pub mod StableSound
+pub mod ChecksStable

@@ -7,7 +7,7 @@ use Rattle.cert_base.specs.declared.proof.LeafProof.{LeafProof}
 use Rattle.cert_base.specs.declared.node.Node.{Node}
 use Rattle.cert_base.specs.ValidProof.{ValidLeafProof}
 use Rattle.cert_base.specs.Ends.{EndsRight}
-use Rattle.tree_faults.specs.Refusals.{first_refused}
+use Rattle.cert_tree.specs.Refusals.{first_refused}
 use Rattle.pop_checker.specs.declared.fault.Rejected.{Rejected}
 use Rattle.pop_checker.specs.declared.fault.Rejected.TheVariants.{Layers, Tree, Predicate}
 use Rattle.pop_checker.specs.Rejections.{RejectsLayers, RejectsTree}

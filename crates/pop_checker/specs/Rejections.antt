@@ -11,8 +11,8 @@ use Rattle.cert_base.specs.Closes.{Closes}
 use Rattle.cert_base.specs.ValidProof.{ValidLeafProof, CombinesTo}
 use Rattle.cert_layers.specs.declared.fault.LayerWhy.{LayerWhy}
 use Rattle.cert_layers.specs.LayerFaults.{AreBrokenFirst}
-use Rattle.tree_faults.specs.declared.fault.TreeWhy.{TreeWhy}
-use Rattle.tree_faults.specs.Refusals.{first_refused}
+use Rattle.cert_tree.specs.declared.fault.TreeWhy.{TreeWhy}
+use Rattle.cert_tree.specs.Refusals.{first_refused}
 use Rattle.pop_checker.specs.declared.fault.Rejected.{Rejected}
 use Rattle.pop_checker.specs.declared.fault.Rejected.TheVariants.{Layers, Tree, Predicate}
 

@@ -8,9 +8,10 @@ use Rattle.cert_base.specs.declared.proof.LeafProof.{LeafProof}
 use Rattle.cert_base.specs.ProofBound.{proof_bound}
 use Rattle.cert_base.specs.ValidProof.{ValidProof}
 use Rattle.pop_leaf.specs.Step.{Step}
-use Rattle.pop_fair.specs.StablyComputes.{MeetingStep, StablyComputes}
-use Rattle.pop_fair.specs.Synchronous.{SynchronousStep}
-use Rattle.pop_random.specs.ComputesAlmostSurely.{ComputesAlmostSurely, ComputesInCubicTime}
+use Rattle.theory_fair.specs.StablyComputes.{MeetingStep, StablyComputes}
+use Rattle.theory_fair.specs.Synchronous.{SynchronousStep}
+use Rattle.theory_random.specs.ComputesAlmostSurely.{ComputesAlmostSurely, ComputesInCubicTime}
+use Rattle.theory_tame.specs.Laws.{AreTameEach}
 use Rattle.pop_checker.specs.Computes.{Computes, EndsByMeetings}
 use Rattle.pop_checker.specs.Changes.{ChangesAtMost}
 
@@ -39,8 +40,9 @@ pub record IsRight (net : NetModel) (p : PredModel) (proof : Proof) : Type 0 whe
   pub random : IsSingle net → ComputesAlmostSurely net p.tree (proof_bound proof)
   -- where each leaf has one layer, every run comes to rest: at most so many of its steps per agent change the crowd
   pub changes : HasOneLayerEach proof → ChangesAtMost net (proof_bound proof)
-  -- and the expected number of random meetings is at most cubic in the number of agents
-  pub cubic : HasOneLayerEach proof → ComputesInCubicTime net p.tree (proof_bound proof)
+  -- where the layers of each leaf are tame, the expected number of random meetings is at most cubic in the number of
+  -- agents; one layer is tame
+  pub cubic : AreTameEach net proof → ComputesInCubicTime net p.tree (proof_bound proof)
 
 abbrev pub IsSound : Type 0
 IsSound =

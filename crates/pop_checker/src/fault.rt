@@ -1,7 +1,7 @@
 //! Why a proof is not valid.
 
 use cert_layers::LayerWhy;
-use tree_faults::TreeWhy;
+use cert_tree::TreeWhy;
 
 /// The first part that is not valid: leaf by leaf the layers, the tree for true and the tree for false; last the
 /// predicate.

@@ -14,15 +14,14 @@ ghost use Rattle.pop_checker.specs.Parts.{IsRightPart, IsLayersFault, IsValueFau
 use crate::fault::Rejected;
 use cert_base::{LAYER_LIMIT, LeafProof, Node, SIZE_LIMIT};
 use cert_layers::check_layers;
-use cert_tree::check_tree;
+use cert_tree::{TreeFault, check_tree};
 use pop_io::{Failure, List};
 use pop_net::Leaf;
 use pres_ast::Pred;
 use std::alloc::Global;
-use tree_faults::TreeFault;
 
 /// Whether the layers and both trees of the leaf with this number are right, and the bound for each agent.
-pub fn check_part(
+pub(crate) fn check_part(
     alloc: Global,
     leaf: &Leaf,
     number: u8,

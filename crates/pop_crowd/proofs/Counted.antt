@@ -21,7 +21,7 @@ use Rattle.std.proofs.lemmas.Map.Views.{All-insert_key}
 use Rattle.pop_leaf.specs.NetModel.{Tuple, CrowdModel}
 use Rattle.pop_crowd.specs.Tally.{tuple_cmp, tuples_of, agents_with, tuple_counts, AreTuplesOf}
 use Rattle.pop_crowd.specs.Shown.{shown}
-use Rattle.list_laws.proofs.Lists.{has_first, has_later}
+use Rattle.base_laws.proofs.Lists.{has_first, has_later}
 
 -- which way an order goes, with its equation
 data Way (o : Ordering) : Type 0 where

@@ -10,7 +10,7 @@ use Rattle.pop_leaf.specs.InputCrowd.{starts_from, start_of, helper_of, input_cr
 use Rattle.pop_net.specs.Lanes.{tuple_of, crowd_of, IsValid, AreValid}
 use Rattle.pop_crowd.specs.Crowds.{input_size}
 use Rattle.pop_net.proofs.Tuples.{length-starts_from}
-use Rattle.list_laws.proofs.Lists.{map-replicate}
+use Rattle.base_laws.proofs.Lists.{map-replicate}
 
 starts_from-push : {A : Type 0} (start : ℕ → A) (k n : ℕ) (counts : List ℕ) → starts_from start k (counts ++ n ∷ []) ≡ starts_from start k counts ++ replicate n (start (k + length counts))
 starts_from-push start k n [] = append-nil (replicate n (start k)) ∙ ap (λ j. replicate n (start j)) (let s : k ≡ k + 0 = omega arith in s)

@@ -3,18 +3,18 @@ use Rattle.std.proofs.Common.{◌≡◌, ℕ, ◌+◌, Bool, true, false, List, 
 use Rattle.std.specs.Prelude.{is_none, Err}
 use Rattle.std.proofs.lemmas.Bool.{cond-false, false≢true}
 use Rattle.std.proofs.lemmas.List.{take_all, drop_all}
-use Rattle.pop_lines.specs.Lines.{lines_of}
+use Rattle.base_lines.specs.Lines.{lines_of}
 use Rattle.pop_leaf.specs.NetModel.{NetModel, CrowdModel}
 use Rattle.pop_crowd.specs.declared.crowd.Meeting.{Meeting}
 use Rattle.pop_crowd.specs.Replay.{replay}
 use Rattle.run_spec.specs.declared.spec.RunSpec.{RunSpec}
-use Rattle.pair_runs.specs.Run.{joined}
-use Rattle.journal_text.specs.Journal.{meeting_line}
-use Rattle.journal_text.specs.Ending.{is_terminal, least_pair, common_output, ending_with, ending_until, last_is_undecided}
-use Rattle.journal_text.specs.declared.last.Outcome.{Outcome}
-use Rattle.journal_text.specs.declared.last.Outcome.TheVariants.{Agreed, Known}
+use Rattle.run_picks.specs.Run.{joined}
+use Rattle.run_text.specs.Journal.{meeting_line}
+use Rattle.run_text.specs.Ending.{is_terminal, least_pair, common_output, ending_with, ending_until, last_is_undecided}
+use Rattle.run_text.specs.declared.last.Outcome.{Outcome}
+use Rattle.run_text.specs.declared.last.Outcome.TheVariants.{Agreed, Known}
 use Rattle.pop_io.specs.declared.failure.Failure.{Failure}
-use Rattle.journal_text.specs.declared.fault.VerifyFault.{VerifyFault}
+use Rattle.run_text.specs.declared.fault.VerifyFault.{VerifyFault}
 use Rattle.pop_journal.specs.Expected.{Compared, both, next_meeting, line_at_end, rounds_compared, tail_compared, whole_tail_until, first_difference}
 use Rattle.pop_journal.specs.Standing.{IsForEnd, Passes, lacking_behind}
 use Rattle.pop_journal.proofs.Spelled.{meeting_no_end}

@@ -1,16 +1,16 @@
 -- Lines that are ended by line feeds, and split again.
 use Rattle.std.proofs.Common.{◌≡◌, ℕ, ◌+◌, ◌≤◌, ◌^◌, Bool, true, false, List, [], ◌∷◌, ◌++◌, length, map, codes, decimal, All, refl, ap, ◌∙◌, arith, append_assoc, if◌then◌else◌}
 use Rattle.std.proofs.lemmas.List.Elements.{All-head, All-tail}
-use Rattle.pop_lines.specs.Lines.{lines_of, ended}
-use Rattle.pop_lines.proofs.Unbroken.{IsUnbroken, line_first, both_unbroken, decimal_unbroken}
+use Rattle.base_lines.specs.Lines.{lines_of, ended}
+use Rattle.base_lines.proofs.Unbroken.{IsUnbroken, line_first, both_unbroken, decimal_unbroken}
 use Rattle.pop_crowd.specs.declared.crowd.Meeting.{Meeting}
 use Rattle.run_spec.specs.declared.spec.RunSpec.{RunSpec}
 use Rattle.run_spec.specs.declared.kind.RunKind.{RunKind}
 use Rattle.run_spec.specs.declared.kind.RunKind.TheVariants.{Whole, Watched}
 use Rattle.run_spec.specs.Kinds.{kind_word}
 use Rattle.run_spec.specs.RunLimits.{IsWithinLimits}
-use Rattle.pair_runs.specs.Run.{joined}
-use Rattle.journal_text.specs.Journal.{run_line, round_line, meeting_line, round_lines, run_lines, text_of}
+use Rattle.run_picks.specs.Run.{joined}
+use Rattle.run_text.specs.Journal.{run_line, round_line, meeting_line, round_lines, run_lines, text_of}
 use Rattle.pop_journal.proofs.Spelled.{IsSmall, mark_of}
 use Rattle.pop_journal.proofs.Holds.{all_parts}
 

@@ -8,25 +8,25 @@ use Rattle.std.proofs.lemmas.Slice.Eq.{bytes_eq-Decides}
 use Rattle.std.proofs.lemmas.List.{map-append, length-append}
 use Rattle.std.proofs.lemmas.List.Splits.{join_with_byte-slice_split, length-slice_split}
 use Rattle.std.proofs.lemmas.List.Elements.{All-nil, All-cons, All-append}
-use Rattle.pop_lines.specs.Lines.{pieces}
-use Rattle.pop_lines.specs.Numbers.{has_no_leading_zero, number_of, printed_number_of}
-use Rattle.pop_lines.proofs.Printed.{printed-number_of}
+use Rattle.base_lines.specs.Lines.{pieces}
+use Rattle.base_lines.specs.Numbers.{has_no_leading_zero, number_of, printed_number_of}
+use Rattle.base_lines.proofs.Printed.{printed-number_of}
 use Rattle.pop_crowd.specs.declared.crowd.Meeting.{Meeting}
 use Rattle.pop_crowd.specs.Replay.{IsMeeting, AreMeetings}
 use Rattle.run_spec.specs.declared.spec.RunSpec.{RunSpec}
 use Rattle.run_spec.specs.declared.kind.RunKind.{RunKind}
 use Rattle.run_spec.specs.declared.kind.RunKind.TheVariants.{Whole, Watched}
-use Rattle.pair_runs.specs.Run.{meetings_of, turns_in, joined, IsRound}
-use Rattle.pair_runs.specs.WatchedRun.{IsWatchedRound}
-use Rattle.pair_runs.proofs.Rounds.{get_pushed, joined_push}
-use Rattle.pair_runs.proofs.WholeWatched.{watched_round}
-use Rattle.journal_text.specs.declared.fault.JournalWhy.{JournalWhy}
-use Rattle.journal_text.specs.declared.fault.JournalWhy.TheVariants.{Form, Worker, Agents, Round}
-use Rattle.journal_text.specs.Journal.{round_line, meeting_line, round_lines}
+use Rattle.run_picks.specs.Run.{meetings_of, turns_in, joined, IsRound}
+use Rattle.run_picks.specs.WatchedRun.{IsWatchedRound}
+use Rattle.run_picks.proofs.Rounds.{get_pushed, joined_push}
+use Rattle.run_picks.proofs.WholeWatched.{watched_round}
+use Rattle.run_text.specs.declared.fault.JournalWhy.{JournalWhy}
+use Rattle.run_text.specs.declared.fault.JournalWhy.TheVariants.{Form, Worker, Agents, Round}
+use Rattle.run_text.specs.Journal.{round_line, meeting_line, round_lines}
 use Rattle.pop_journal.specs.Rounds.{AreRounds, AreWatchedRounds, AreRoundsOf}
 use Rattle.pop_journal.specs.declared.form.MeetingLine.{MeetingLine}
 use Rattle.pop_journal.specs.Form.{at_the_end, three_numbers, told_words, told_in, Reading, all_rounds, wanted, settled, meeting_of, meeting_told, ends_inside, line_read, Parts, follow, lines_read}
-use Rattle.journal_text.proofs.Texts.{round_lines-push}
+use Rattle.run_text.proofs.Texts.{round_lines-push}
 use Rattle.pop_journal.proofs.Spelled.{mark_words, joined_right}
 use Rattle.pop_journal.proofs.Counts.{round_full}
 use Rattle.pop_journal.proofs.Due.{own_last, other_last}

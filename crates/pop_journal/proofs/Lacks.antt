@@ -5,9 +5,9 @@ use Rattle.std.specs.List.{range_with_len}
 use Rattle.std.proofs.lemmas.Bool.{ltb-true, ltb-false}
 use Rattle.pop_crowd.specs.declared.crowd.Meeting.{Meeting}
 use Rattle.run_spec.specs.declared.spec.RunSpec.{RunSpec}
-use Rattle.pair_runs.specs.Run.{IsRound, joined, made_by, turns_in}
-use Rattle.pair_runs.specs.WatchedRun.{IsWatchedRound, AreSpent}
-use Rattle.pair_runs.proofs.SpentTurns.{HasTurns, joined_made, turns_on, first_turns, next_turns, made_most, has_turns}
+use Rattle.run_picks.specs.Run.{IsRound, joined, made_by, turns_in}
+use Rattle.run_picks.specs.WatchedRun.{IsWatchedRound, AreSpent}
+use Rattle.run_picks.proofs.SpentTurns.{HasTurns, joined_made, turns_on, first_turns, next_turns, made_most, has_turns}
 use Rattle.pop_journal.specs.Expected.{lacking}
 use Rattle.pop_journal.specs.Standing.{lacking_behind}
 

@@ -11,11 +11,11 @@ use Rattle.std.proofs.lemmas.Str.{digit_value_digit}
 use Rattle.std.proofs.lemmas.Str.Parse.{IsNumeralModel, numerals_by_value, tells_by_index}
 use Rattle.std.proofs.lemmas.Int.Digits.{digits_value_more}
 use Rattle.pop_crowd.specs.declared.crowd.Meeting.{Meeting}
-use Rattle.pop_lines.specs.Lines.{lines_of}
+use Rattle.base_lines.specs.Lines.{lines_of}
 use Rattle.pop_journal.specs.Form.{Tells}
-use Rattle.journal_text.specs.Journal.{meeting_line}
+use Rattle.run_text.specs.Journal.{meeting_line}
 use Rattle.pop_journal.proofs.Spelled.{IsSmall, joined_right}
-use Rattle.pop_lines.proofs.Unbroken.{line_first}
+use Rattle.base_lines.proofs.Unbroken.{line_first}
 use Rattle.pop_journal.proofs.Feeds.{meeting_unbroken}
 use Rattle.pop_journal.proofs.FormLaws.{line_of}
 use Rattle.pop_journal.proofs.ReadBack.{told_back}

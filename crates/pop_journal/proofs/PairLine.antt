@@ -3,13 +3,13 @@ use Rattle.std.proofs.Common.{◌≡◌, ◌≢◌, ℕ, ◌<◌, ◌^◌, ◌==
 use Rattle.std.specs.Prelude.{Ok, Some}
 use Rattle.std.proofs.lemmas.Bool.{ne_eqb, lt-ltb}
 use Rattle.std.proofs.lemmas.List.Splits.{slice_split_none}
-use Rattle.pop_lines.specs.Lines.{pieces, lines_of, ended}
-use Rattle.pop_lines.proofs.Printed.{number_of-decimal}
+use Rattle.base_lines.specs.Lines.{pieces, lines_of, ended}
+use Rattle.base_lines.proofs.Printed.{number_of-decimal}
 use Rattle.pop_words.specs.Meetings.{meeting_of, two_agents_of, pair_of}
 use Rattle.pop_journal.specs.FirstPair.{IsFirstPair}
 use Rattle.pop_journal.proofs.Spelled.{decimal_no_space}
 use Rattle.pop_journal.proofs.RunLine.{cut_number}
-use Rattle.pop_lines.proofs.Unbroken.{line_first, both_unbroken, decimal_unbroken}
+use Rattle.base_lines.proofs.Unbroken.{line_first, both_unbroken, decimal_unbroken}
 
 words : (a b : ℕ) → a < 2 ^ 64 → b < 2 ^ 64 → pieces 32 (decimal a ++ 32 ∷ decimal b) ≡ decimal a ∷ decimal b ∷ []
 words a b la lb = cut_number a (decimal b) la ∙ ap (λ (ws : List (List ℕ)). decimal a ∷ ws) (slice_split_none (λ c. c == 32) (decimal b) (decimal_no_space b lb))

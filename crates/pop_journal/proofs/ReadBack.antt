@@ -6,18 +6,18 @@ use Rattle.std.proofs.lemmas.Bool.{and_from, lt-ltb, eq-eqb, ne_eqb, cond-true, 
 use Rattle.std.proofs.lemmas.Slice.Eq.{bytes_eq-Decides}
 use Rattle.std.proofs.lemmas.List.Elements.{All-head, filter-append}
 use Rattle.std.proofs.Math.Nat.{mul-le-mul}
-use Rattle.pop_lines.proofs.Printed.{printed_number_of-decimal}
+use Rattle.base_lines.proofs.Printed.{printed_number_of-decimal}
 use Rattle.pop_crowd.specs.declared.crowd.Meeting.{Meeting}
 use Rattle.pop_crowd.specs.Replay.{IsMeeting}
 use Rattle.run_spec.specs.declared.spec.RunSpec.{RunSpec}
 use Rattle.run_spec.specs.declared.kind.RunKind.{RunKind}
 use Rattle.run_spec.specs.declared.kind.RunKind.TheVariants.{Whole, Watched}
-use Rattle.pair_runs.specs.Run.{meetings_of, turns_in, joined, IsRound}
-use Rattle.pair_runs.specs.WatchedRun.{IsWatchedRound}
-use Rattle.pair_runs.proofs.WholeWatched.{watched_round}
-use Rattle.journal_text.specs.declared.fault.JournalWhy.{JournalWhy}
-use Rattle.journal_text.specs.declared.fault.JournalWhy.TheVariants.{Form, Worker, Agents, Round}
-use Rattle.journal_text.specs.Journal.{round_line, meeting_line, round_lines}
+use Rattle.run_picks.specs.Run.{meetings_of, turns_in, joined, IsRound}
+use Rattle.run_picks.specs.WatchedRun.{IsWatchedRound}
+use Rattle.run_picks.proofs.WholeWatched.{watched_round}
+use Rattle.run_text.specs.declared.fault.JournalWhy.{JournalWhy}
+use Rattle.run_text.specs.declared.fault.JournalWhy.TheVariants.{Form, Worker, Agents, Round}
+use Rattle.run_text.specs.Journal.{round_line, meeting_line, round_lines}
 use Rattle.pop_journal.specs.Rounds.{AreRounds, AreWatchedRounds, AreRoundsOf}
 use Rattle.pop_journal.specs.declared.form.MeetingLine.{MeetingLine}
 use Rattle.pop_journal.specs.Form.{Tells, three_numbers, told_words, told_in, Reading, all_rounds, wanted, settled, meeting_told, ends_inside, line_read, Parts, follow, lines_read}

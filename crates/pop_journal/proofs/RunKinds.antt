@@ -9,13 +9,13 @@ use Rattle.run_spec.specs.declared.spec.RunSpec.{RunSpec}
 use Rattle.run_spec.specs.declared.kind.RunKind.{RunKind}
 use Rattle.run_spec.specs.declared.kind.RunKind.TheVariants.{Whole, Watched}
 use Rattle.run_spec.specs.Kinds.{most_workers_of}
-use Rattle.pair_runs.specs.Picks.{words_from, first_state}
-use Rattle.pair_runs.specs.Run.{IsRunUntil, joined, meetings_of}
-use Rattle.pair_runs.specs.WatchedRun.{IsWatchedRound, IsWatchedRunUntil, IsRunOf, IsRunOfUntil}
-use Rattle.pair_runs.proofs.Meets.{picked_meet}
-use Rattle.pair_runs.proofs.Rounds.{joined_all}
-use Rattle.pair_runs.proofs.SpentTurns.{over_by_rounds}
-use Rattle.pair_runs.proofs.WholeWatched.{watched_round, whole_is_watched}
+use Rattle.run_picks.specs.Picks.{words_from, first_state}
+use Rattle.run_picks.specs.Run.{IsRunUntil, joined, meetings_of}
+use Rattle.run_picks.specs.WatchedRun.{IsWatchedRound, IsWatchedRunUntil, IsRunOf, IsRunOfUntil}
+use Rattle.run_picks.proofs.Meets.{picked_meet}
+use Rattle.run_picks.proofs.Rounds.{joined_all}
+use Rattle.run_picks.proofs.SpentTurns.{over_by_rounds}
+use Rattle.run_picks.proofs.WholeWatched.{watched_round, whole_is_watched}
 use Rattle.pop_journal.specs.Expected.{stream_after, next_meeting}
 use Rattle.pop_journal.specs.Rounds.{AreRounds, AreWatchedRounds, AreRoundsOf}
 use Rattle.pop_journal.proofs.Due.{AreDue, picked_due}

@@ -7,20 +7,20 @@ use Rattle.std.proofs.lemmas.Bool.{le-leb, leb-true, cond-true, and_from, and_pa
 use Rattle.std.proofs.lemmas.Slice.Eq.{bytes_eq-Decides}
 use Rattle.std.proofs.lemmas.List.Splits.{join_with_byte-slice_split, slice_split_at, slice_split_none}
 use Rattle.pop_io.specs.declared.gate.TheConstants.{SHARD_LIMIT}
-use Rattle.pop_lines.specs.Lines.{pieces}
-use Rattle.pop_lines.specs.Numbers.{has_no_leading_zero, number_of, number_of_within, printed_number_of_within}
-use Rattle.pop_lines.proofs.Printed.{printed-number_of, printed_number_of-decimal}
+use Rattle.base_lines.specs.Lines.{pieces}
+use Rattle.base_lines.specs.Numbers.{has_no_leading_zero, number_of, number_of_within, printed_number_of_within}
+use Rattle.base_lines.proofs.Printed.{printed-number_of, printed_number_of-decimal}
 use Rattle.run_spec.specs.declared.spec.TheConstants.{TURN_LIMIT, MEETING_LIMIT, SEED_LIMIT}
 use Rattle.run_spec.specs.declared.spec.RunSpec.{RunSpec}
 use Rattle.run_spec.specs.declared.kind.RunKind.{RunKind}
 use Rattle.run_spec.specs.declared.kind.RunKind.TheVariants.{Whole, Watched}
 use Rattle.run_spec.specs.Kinds.{kind_word, most_workers_of}
 use Rattle.run_spec.specs.RunLimits.{IsWithinLimits}
-use Rattle.journal_text.specs.Journal.{run_line}
+use Rattle.run_text.specs.Journal.{run_line}
 use Rattle.pop_journal.specs.Form.{number_named, at_the_end, spec_words, spec_in}
 use Rattle.pop_journal.proofs.RunKinds.{few_workers}
 use Rattle.pop_journal.proofs.Spelled.{decimal_no_space}
-use Rattle.list_laws.proofs.Options.{some_before}
+use Rattle.base_laws.proofs.Options.{some_before}
 
 abbrev space : ℕ → Bool
 space b = b == 32

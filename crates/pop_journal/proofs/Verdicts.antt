@@ -6,22 +6,22 @@ use Rattle.pop_net.specs.declared.net.Word.{Word}
 use Rattle.pop_io.specs.declared.gate.TheConstants.{WORKER_LIMIT}
 use Rattle.pop_leaf.specs.NetModel.{NetModel, CrowdModel, IsTuple}
 use Rattle.pop_net.specs.Lanes.{crowd_of, tuple_of}
-use Rattle.pop_lines.specs.Lines.{lines_of}
+use Rattle.base_lines.specs.Lines.{lines_of}
 use Rattle.pop_crowd.specs.declared.limits.TheConstants.{AGENT_LEAST, AGENT_LIMIT}
 use Rattle.pop_crowd.specs.Replay.{replay}
 use Rattle.pop_crowd.proofs.Words.{crowd_tuples}
 use Rattle.run_spec.specs.RunLimits.{IsWithinLimits}
-use Rattle.pair_runs.specs.Run.{joined}
-use Rattle.pair_runs.specs.WatchedRun.{IsWatchedRunUntil}
-use Rattle.pair_runs.specs.SameLanes.{HaveSameLanes}
+use Rattle.run_picks.specs.Run.{joined}
+use Rattle.run_picks.specs.WatchedRun.{IsWatchedRunUntil}
+use Rattle.run_picks.specs.SameLanes.{HaveSameLanes}
 use Rattle.pop_io.specs.declared.failure.Failure.{Failure}
 use Rattle.pop_io.specs.declared.failure.Failure.TheVariants.{Fault, NoMemory}
-use Rattle.journal_text.specs.declared.fault.VerifyFault.{VerifyFault}
-use Rattle.journal_text.specs.declared.fault.VerifyFault.TheVariants.{Differs}
+use Rattle.run_text.specs.declared.fault.VerifyFault.{VerifyFault}
+use Rattle.run_text.specs.declared.fault.VerifyFault.TheVariants.{Differs}
 use Rattle.pop_journal.specs.declared.journal.Journal.{Journal}
 use Rattle.pop_journal.specs.Rounds.{AreRoundsOf}
-use Rattle.journal_text.specs.declared.last.Outcome.{Outcome}
-use Rattle.journal_text.specs.Difference.{Difference}
+use Rattle.run_text.specs.declared.last.Outcome.{Outcome}
+use Rattle.run_text.specs.Difference.{Difference}
 use Rattle.pop_journal.specs.Expected.{first_difference, journal_compared_until, whole_tail_until, HoldsUntil}
 use Rattle.pop_journal.specs.Standing.{Passes}
 use Rattle.pop_journal.proofs.Holds.{run_of_none, none_of_run}

@@ -4,7 +4,7 @@ use Rattle.std.specs.Prelude.{slice_get, IfOk}
 use Rattle.std.proofs.lemmas.List.Elements.{All-nil, All-cons, All-head, All-tail}
 use Rattle.std.proofs.lemmas.Option.{slice_get-get_or}
 use Rattle.pop_io.specs.declared.gate.TheConstants.{WORKER_LIMIT}
-use Rattle.pop_lines.specs.Lines.{lines_of, ended}
+use Rattle.base_lines.specs.Lines.{lines_of, ended}
 use Rattle.pop_leaf.specs.NetModel.{NetModel, CrowdModel}
 use Rattle.pop_crowd.specs.declared.limits.TheConstants.{AGENT_LIMIT}
 use Rattle.pop_crowd.specs.declared.crowd.Meeting.{Meeting}
@@ -15,18 +15,18 @@ use Rattle.run_spec.specs.declared.spec.RunSpec.{RunSpec}
 use Rattle.run_spec.specs.declared.kind.RunKind.{RunKind}
 use Rattle.run_spec.specs.Kinds.{most_workers_of}
 use Rattle.run_spec.specs.RunLimits.{IsWithinLimits}
-use Rattle.pair_runs.specs.Run.{joined}
-use Rattle.pair_runs.specs.WatchedRun.{IsWatchedRound, IsWatchedRunUntil, IsRunOf, IsRunOfUntil}
+use Rattle.run_picks.specs.Run.{joined}
+use Rattle.run_picks.specs.WatchedRun.{IsWatchedRound, IsWatchedRunUntil, IsRunOf, IsRunOfUntil}
 use Rattle.pop_journal.specs.declared.journal.Journal.{Journal}
-use Rattle.journal_text.specs.Journal.{run_line, round_lines, run_lines, last_line, text_of, journal_text}
+use Rattle.run_text.specs.Journal.{run_line, round_lines, run_lines, last_line, text_of, journal_text}
 use Rattle.pop_journal.specs.Rounds.{AreRounds, AreWatchedRounds, AreRoundsOf}
-use Rattle.journal_text.specs.Ending.{ending_of, ending_until}
-use Rattle.journal_text.specs.declared.last.Outcome.{Outcome}
-use Rattle.journal_text.specs.declared.last.Outcome.TheVariants.{Agreed}
+use Rattle.run_text.specs.Ending.{ending_of, ending_until}
+use Rattle.run_text.specs.declared.last.Outcome.{Outcome}
+use Rattle.run_text.specs.declared.last.Outcome.TheVariants.{Agreed}
 use Rattle.pop_journal.specs.Expected.{whole_tail, whole_tail_until}
 use Rattle.pop_journal.specs.Form.{spec_in, Reading, Parts, Out, lines_read, under, with_spec, journal_in}
 use Rattle.pop_io.specs.declared.failure.Failure.{Failure}
-use Rattle.journal_text.specs.declared.fault.JournalFault.{JournalFault}
+use Rattle.run_text.specs.declared.fault.JournalFault.{JournalFault}
 use Rattle.pop_journal.specs.ReadLines.{ReadsJournal}
 use Rattle.pop_journal.specs.Laws.{IsOneSpelling, IsOneSpellingUntil, IsRunReadBackUntil, IsWrittenHeld, IsWrittenHeldUntil}
 use Rattle.pop_journal.proofs.Spelled.{IsSmall}

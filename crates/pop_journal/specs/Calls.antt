@@ -6,18 +6,18 @@ use Rattle.pop_net.specs.Lanes.{crowd_of, AreValid}
 use Rattle.run_spec.specs.declared.kind.RunKind.{RunKind}
 use Rattle.run_spec.specs.Kinds.{most_workers_of}
 use Rattle.run_spec.specs.RunLimits.{IsWithinLimits}
-use Rattle.pair_runs.specs.Run.{joined}
-use Rattle.journal_text.specs.declared.fault.JournalFault.{JournalFault}
-use Rattle.journal_text.specs.declared.fault.VerifyFault.{VerifyFault}
+use Rattle.run_picks.specs.Run.{joined}
+use Rattle.run_text.specs.declared.fault.JournalFault.{JournalFault}
+use Rattle.run_text.specs.declared.fault.VerifyFault.{VerifyFault}
 use Rattle.pop_io.specs.declared.failure.Failure.{Failure}
 use Rattle.pop_io.specs.Failures.{OnlyMemory}
 use Rattle.pop_journal.specs.declared.journal.Journal.{Journal}
 use Rattle.pop_journal.specs.declared.journal.TheConstants.{LINE_LIMIT}
-use Rattle.journal_text.specs.Journal.{run_line, round_lines}
+use Rattle.run_text.specs.Journal.{run_line, round_lines}
 use Rattle.pop_journal.specs.Rounds.{AreRoundsOf}
 use Rattle.pop_journal.specs.ReadLines.{ReadsJournal}
-use Rattle.journal_text.specs.declared.last.Outcome.{Outcome}
-use Rattle.journal_text.specs.declared.last.Outcome.TheVariants.{Agreed}
+use Rattle.run_text.specs.declared.last.Outcome.{Outcome}
+use Rattle.run_text.specs.declared.last.Outcome.TheVariants.{Agreed}
 use Rattle.pop_journal.specs.Expected.{journal_compared_until, HoldsUntil}
 use Rattle.pop_journal.specs.Standing.{Passes}
 

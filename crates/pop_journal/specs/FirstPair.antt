@@ -1,6 +1,6 @@
 -- The first meeting line of `play`.
 use Rattle.std.specs.Prelude.{◌≡◌, ◌≢◌, ℕ, ◌<◌, List, ◌∷◌, Ok}
-use Rattle.pop_lines.specs.Lines.{lines_of}
+use Rattle.base_lines.specs.Lines.{lines_of}
 use Rattle.pop_words.specs.Meetings.{meeting_of}
 
 -- a text begins with a line that names these two agents, and this follows it

@@ -3,8 +3,8 @@ use Rattle.std.specs.Prelude.{◌≡◌, ℕ, ◌+◌, ◌*◌, ◌==◌, ◌&&�
 use Rattle.std.specs.Prelude.{false, if◌then◌else◌, List, [], ◌∷◌, ◌++◌, length, codes, Option}
 use Rattle.std.specs.Prelude.{Some, None, option_map, option_and_then, Result, Ok, Err}
 use Rattle.std.specs.Str.{bytes_eq}
-use Rattle.pop_lines.specs.Lines.{pieces}
-use Rattle.pop_lines.specs.Numbers.{printed_number_of, printed_number_of_within}
+use Rattle.base_lines.specs.Lines.{pieces}
+use Rattle.base_lines.specs.Numbers.{printed_number_of, printed_number_of_within}
 use Rattle.pop_crowd.specs.declared.crowd.Meeting.{Meeting}
 use Rattle.pop_io.specs.declared.gate.TheConstants.{SHARD_LIMIT}
 use Rattle.run_spec.specs.declared.kind.RunKind.{RunKind}
@@ -12,11 +12,11 @@ use Rattle.run_spec.specs.declared.kind.RunKind.TheVariants.{Whole, Watched}
 use Rattle.run_spec.specs.Kinds.{kind_word, most_workers_of}
 use Rattle.run_spec.specs.declared.spec.TheConstants.{TURN_LIMIT, MEETING_LIMIT, SEED_LIMIT}
 use Rattle.run_spec.specs.declared.spec.RunSpec.{RunSpec}
-use Rattle.pair_runs.specs.Run.{made_by, turns_in}
+use Rattle.run_picks.specs.Run.{made_by, turns_in}
 use Rattle.pop_journal.specs.declared.form.MeetingLine.{MeetingLine}
-use Rattle.journal_text.specs.Journal.{round_line}
-use Rattle.journal_text.specs.declared.fault.JournalWhy.{JournalWhy}
-use Rattle.journal_text.specs.declared.fault.JournalWhy.TheVariants.{Missing, Form, Worker, Agents, Round}
+use Rattle.run_text.specs.Journal.{round_line}
+use Rattle.run_text.specs.declared.fault.JournalWhy.{JournalWhy}
+use Rattle.run_text.specs.declared.fault.JournalWhy.TheVariants.{Missing, Form, Worker, Agents, Round}
 
 -- a number in its printed form and within these limits, with the words after it
 abbrev pub number_first : ℕ → ℕ → List (List ℕ) → Option (ℕ × List (List ℕ))

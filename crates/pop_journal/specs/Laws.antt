@@ -1,7 +1,7 @@
 -- Laws of journals: a text that is read and holds has one spelling, and the text written for a run is read and holds.
 -- The first net says where a run ends.
 use Rattle.std.specs.Prelude.{◌≡◌, ℕ, ◌*◌, ◌<◌, ◌≤◌, ◌^◌, List, [], ◌∷◌, ◌++◌, length, Ok}
-use Rattle.pop_lines.specs.Lines.{lines_of}
+use Rattle.base_lines.specs.Lines.{lines_of}
 use Rattle.pop_leaf.specs.NetModel.{NetModel, CrowdModel}
 use Rattle.pop_crowd.specs.declared.limits.TheConstants.{AGENT_LEAST, AGENT_LIMIT}
 use Rattle.pop_crowd.specs.declared.crowd.Meeting.{Meeting}
@@ -11,13 +11,13 @@ use Rattle.run_spec.specs.declared.kind.RunKind.{RunKind}
 use Rattle.run_spec.specs.declared.spec.RunSpec.{RunSpec}
 use Rattle.run_spec.specs.Kinds.{most_workers_of}
 use Rattle.run_spec.specs.RunLimits.{IsWithinLimits}
-use Rattle.pair_runs.specs.Run.{joined}
-use Rattle.pair_runs.specs.WatchedRun.{IsRunOfUntil}
+use Rattle.run_picks.specs.Run.{joined}
+use Rattle.run_picks.specs.WatchedRun.{IsRunOfUntil}
 use Rattle.pop_journal.specs.declared.journal.Journal.{Journal}
-use Rattle.journal_text.specs.Journal.{journal_text}
-use Rattle.journal_text.specs.declared.last.Outcome.{Outcome}
-use Rattle.journal_text.specs.declared.last.Outcome.TheVariants.{Agreed}
-use Rattle.journal_text.specs.Ending.{ending_until}
+use Rattle.run_text.specs.Journal.{journal_text}
+use Rattle.run_text.specs.declared.last.Outcome.{Outcome}
+use Rattle.run_text.specs.declared.last.Outcome.TheVariants.{Agreed}
+use Rattle.run_text.specs.Ending.{ending_until}
 use Rattle.pop_journal.specs.Expected.{whole_tail_until, HoldsUntil}
 use Rattle.pop_journal.specs.Form.{journal_in}
 use Rattle.pop_journal.specs.ReadLines.{ReadsJournal}

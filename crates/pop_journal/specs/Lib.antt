@@ -6,4 +6,3 @@ pub mod ReadLines
 pub mod Laws
 pub mod FirstPair
 pub mod Calls
-pub mod WatchedLast

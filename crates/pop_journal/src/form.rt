@@ -2,8 +2,8 @@
 
 ghost use Rattle.std.specs.Prelude.{◌≡◌, ◌+◌, ◌<◌, ◌≤◌, ℕ, IfOk, IfSome, MatchOption, None, List as Items, [], length};
 ghost use Rattle.std.specs.Prelude.{Some, slice_index_or};
-ghost use Rattle.pop_lines.specs.Lines.{lines_of};
-ghost use Rattle.pair_runs.specs.Run.{meetings_of, turns_in};
+ghost use Rattle.base_lines.specs.Lines.{lines_of};
+ghost use Rattle.run_picks.specs.Run.{meetings_of, turns_in};
 ghost use Rattle.pop_journal.specs.ReadLines.{first_ends};
 ghost use Rattle.pop_journal.specs.Form.{Tells, told_in, three_numbers, meeting_told, onward, number_named};
 ghost use Rattle.pop_journal.specs.Form.{at_the_end, number_first, turns_named, spec_named, spec_in};
@@ -14,11 +14,11 @@ ghost use Rattle.std.specs.Option.{option_copied};
 
 use crate::reading::ReadContext;
 use crate::short::short_meeting;
-use journal_text::JournalWhy;
+use base_lines::{cut, next_line, printed_number, printed_within};
 use pop_crowd::Meeting;
 use pop_io::{SHARD_LIMIT, WORKER_LIMIT};
-use pop_lines::{cut, next_line, printed_number, printed_within};
 use run_spec::{MEETING_LIMIT, RunKind, RunSpec, SEED_LIMIT, TURN_LIMIT};
+use run_text::JournalWhy;
 
 /// The numbers of a meeting line, of any size, and whether it has a mark.
 #[derive(Clone, Copy)]

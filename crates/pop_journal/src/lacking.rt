@@ -3,15 +3,15 @@
 ghost use Rattle.std.specs.Prelude.{◌≡◌, ◌+◌, ◌*◌, ◌<◌, ◌≤◌, ℕ, List as Items, length, All, IfOk, Some, find, nat_lt};
 ghost use Rattle.std.specs.Prelude.{slice_get, slice_index_or};
 ghost use Rattle.std.specs.List.{range_with_len};
-ghost use Rattle.pair_runs.specs.Run.{made_by};
-ghost use Rattle.pair_runs.specs.WatchedRun.{IsWatchedRound};
+ghost use Rattle.run_picks.specs.Run.{made_by};
+ghost use Rattle.run_picks.specs.WatchedRun.{IsWatchedRound};
 ghost use Rattle.pop_journal.specs.Expected.{lacking};
 ghost use Rattle.pop_journal.specs.Standing.{lacking_behind};
 
 use crate::limits::ROUND_LIMIT;
-use pair_runs::ROUND_TURNS;
 use pop_crowd::Meeting;
 use pop_io::List;
+use run_picks::ROUND_TURNS;
 use run_spec::RunSpec;
 use std::alloc::{AllocError, Global};
 

@@ -1,8 +1,8 @@
 //! How long a journal may be.
 
 use crate::journal::LINE_LIMIT;
-use pair_runs::ROUND_TURNS;
 use pop_io::WORKER_LIMIT;
+use run_picks::ROUND_TURNS;
 use run_spec::TURN_LIMIT;
 
 /// The most rounds of a run: no worker makes more than `TURN_LIMIT` meetings.

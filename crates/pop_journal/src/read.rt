@@ -4,12 +4,12 @@ ghost use Rattle.std.specs.Prelude.{◌≡◌, ◌+◌, ◌*◌, ◌<◌, ◌≤
 ghost use Rattle.std.specs.Prelude.{None, Ok, Err, IfOk};
 ghost use Rattle.std.specs.Str.{bytes_eq};
 ghost use Rattle.pop_journal.specs.Calls.{IsReadFrom};
-ghost use Rattle.journal_text.specs.Journal.{round_line};
-ghost use Rattle.pop_lines.specs.Lines.{lines_of};
+ghost use Rattle.run_text.specs.Journal.{round_line};
+ghost use Rattle.base_lines.specs.Lines.{lines_of};
 ghost use Rattle.run_spec.specs.Kinds.{most_workers_of};
 ghost use Rattle.run_spec.specs.RunLimits.{IsWithinLimits};
-ghost use Rattle.pair_runs.specs.Run.{turns_in};
-ghost use Rattle.journal_text.specs.declared.fault.JournalFault.TheVariants.{Out};
+ghost use Rattle.run_picks.specs.Run.{turns_in};
+ghost use Rattle.run_text.specs.declared.fault.JournalFault.TheVariants.{Out};
 ghost use Rattle.pop_io.specs.declared.failure.Failure.TheVariants.{Fault};
 ghost use Rattle.pop_journal.specs.ReadLines.{ReadsRound, ReadsRounds, ReadsJournal};
 
@@ -17,13 +17,13 @@ use crate::form::{checked, next_told, spec_of, stops_here};
 use crate::journal::{Journal, LINE_LIMIT};
 use crate::limits::FIRST_MEETING_LIMIT;
 use crate::reading::{ReadContext, TextPlace};
+use base_lines::next_line;
 use itoa::Buffer;
-use journal_text::{JournalFault, JournalWhy};
-use pair_runs::ROUND_TURNS;
 use pop_crowd::Meeting;
 use pop_io::{Failure, List, WORKER_LIMIT};
-use pop_lines::next_line;
+use run_picks::ROUND_TURNS;
 use run_spec::RunKind;
+use run_text::{JournalFault, JournalWhy};
 use std::alloc::{AllocError, Global};
 
 /// How the lines of a round end.

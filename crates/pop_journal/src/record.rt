@@ -2,23 +2,23 @@
 
 ghost use Rattle.std.specs.Prelude.{◌≡◌, ◌++◌, IfOk, OnOk};
 ghost use Rattle.pop_net.specs.Lanes.{crowd_of, AreValid};
-ghost use Rattle.journal_text.specs.Journal.{round_lines, text_of, journal_text};
+ghost use Rattle.run_text.specs.Journal.{round_lines, text_of, journal_text};
 
-use journal_text::{Last, Page, push_end, push_rounds, push_run_line};
-use pair_runs::{ROUND_TURNS, RunEnd};
 use pop_io::{List, NoMemory};
 use pop_net::Net;
+use run_picks::{ROUND_TURNS, RunEnd};
 use run_spec::{RunKind, RunSpec};
+use run_text::{Last, Page, push_end, push_rounds, push_run_line};
 use std::alloc::{AllocError, Global};
 
 /// A run as its journal tells it: its kind, its net and options, its end with all rounds, and the last line.
 #[derive(Clone, Copy)]
-pub struct RunRecord<'a> {
-    pub kind: RunKind,
-    pub net: &'a Net,
-    pub spec: &'a RunSpec,
-    pub end: &'a RunEnd,
-    pub last: Last,
+struct RunRecord<'a> {
+    kind: RunKind,
+    net: &'a Net,
+    spec: &'a RunSpec,
+    end: &'a RunEnd,
+    last: Last,
 }
 
 /// The lines of a run of this kind, each ended by a line feed: its options, its rounds, the crowd at its end,
@@ -48,7 +48,7 @@ pub fn write_journal(
 }
 
 /// Adds the lines of a run of this kind to a text, as `write_journal` gives them.
-pub fn push_journal(alloc: Global, text: &mut Vec<u8>, told: &RunRecord<'_>) -> Result<(), NoMemory>
+fn push_journal(alloc: Global, text: &mut Vec<u8>, told: &RunRecord<'_>) -> Result<(), NoMemory>
     requires { AreValid told.now.net.now told.now.end.now.crowd }
     ensures { OnOk result
         (text.new.items ≡ text.old.items

@@ -1,11 +1,11 @@
 //! What the steps of a replay have in common, and where its `end` stands.
 
 ghost use Rattle.terminal_test.specs.TableNet.{table_net};
-ghost use Rattle.pair_runs.specs.SameLanes.{HaveSameLanes};
+ghost use Rattle.run_picks.specs.SameLanes.{HaveSameLanes};
 
 use crate::journal::Journal;
-use journal_text::Outcome;
 use pop_net::Net;
+use run_text::Outcome;
 use terminal_test::PairTable;
 
 /// A journal, the net that its agents meet by, the table of pairs that says where its run is over, and what is known

@@ -1,7 +1,7 @@
 //! Meeting lines of short numbers, read in one pass.
 
 ghost use Rattle.std.specs.Prelude.{◌≡◌, ◌∷◌, ◌++◌, [], if◌then◌else◌, codes, decimal, Some, IfSome};
-ghost use Rattle.pop_lines.specs.Lines.{lines_of};
+ghost use Rattle.base_lines.specs.Lines.{lines_of};
 ghost use Rattle.pop_journal.specs.Form.{Tells};
 ghost use Rattle.pop_journal.specs.FirstPair.{IsFirstPair};
 

@@ -4,12 +4,12 @@ ghost use Rattle.std.specs.Prelude.{◌≡◌, ◌≤◌, ◌+◌, [], length, I
 ghost use Rattle.pop_net.specs.Lanes.{crowd_of, AreValid};
 ghost use Rattle.terminal_test.specs.TableNet.{table_net};
 ghost use Rattle.run_spec.specs.RunLimits.{IsWithinLimits};
-ghost use Rattle.pair_runs.specs.CrowdSize.{IsCrowdSize};
-ghost use Rattle.pair_runs.specs.SameLanes.{HaveSameLanes};
-ghost use Rattle.pair_runs.specs.Run.{joined};
+ghost use Rattle.run_picks.specs.CrowdSize.{IsCrowdSize};
+ghost use Rattle.run_picks.specs.SameLanes.{HaveSameLanes};
+ghost use Rattle.run_picks.specs.Run.{joined};
 ghost use Rattle.pop_journal.specs.Rounds.{AreWatchedRounds};
 ghost use Rattle.pop_journal.specs.Calls.{CanVerify, IsVerified, IsVerifiedUntil};
-ghost use Rattle.journal_text.specs.declared.last.Outcome.TheVariants.{Known};
+ghost use Rattle.run_text.specs.declared.last.Outcome.TheVariants.{Known};
 ghost use Rattle.pop_journal.specs.Expected.{journal_compared_until};
 ghost use Rattle.pop_journal.specs.Standing.{IsReplaying, Passes};
 
@@ -17,12 +17,12 @@ use crate::journal::{Journal, LINE_LIMIT};
 use crate::lacking::lacking_last;
 use crate::replay_context::{EndPlace, ReplayContext};
 use crate::replayer::Replayer;
-use journal_text::{Outcome, VerifyFault};
-use pair_runs::first_pickers;
 use pop_crowd::Crowd;
 use pop_io::{Failure, NoMemory};
 use pop_net::Net;
+use run_picks::first_pickers;
 use run_spec::{RunSpec, SEED_LIMIT};
+use run_text::{Outcome, VerifyFault};
 use std::alloc::Global;
 use terminal_test::PairTable;
 

@@ -6,3 +6,8 @@ pub mod FirstFault
 pub mod LeafFaults
 pub mod Within
 pub mod Tables
+pub mod Copied
+pub mod Crowds
+pub mod Kept
+mod Marked
+pub mod HushedMoves

@@ -11,7 +11,7 @@ use Rattle.pop_leaf.specs.LeafModel.{silent_move, same_pair, IsMoveBelow}
 use Rattle.pop_leaf.specs.Reaction.{takes_states, after_move, by_move}
 use Rattle.pop_leaf.proofs.Quiet.{All-slice_get}
 use Rattle.pop_leaf.specs.ReactionTable.{IsTable, with_reaction}
-use Rattle.list_laws.proofs.Lists.{get-set_same, slice_get-set_apart}
+use Rattle.base_laws.proofs.Lists.{get-set_same, slice_get-set_apart}
 
 pub place_in : (n x y : ℕ) → x < n → y < n → x * n + y < n * n
 place_in n x y lx ly = mul-add-lt x n y n lx ly

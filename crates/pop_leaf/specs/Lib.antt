@@ -10,3 +10,5 @@ pub mod Terminal
 pub mod Reaction
 pub mod ReactionTable
 pub mod Promises
+pub mod Laws
+pub mod Marks

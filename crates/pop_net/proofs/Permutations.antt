@@ -9,7 +9,7 @@ use Rattle.std.proofs.lemmas.Option.{slice_get_within}
 use Rattle.pop_leaf.specs.Step.{Meets}
 use Rattle.pop_leaf.specs.Terminal.{IsTerminal}
 use Rattle.pop_net.proofs.Tuples.{meets_length}
-use Rattle.list_laws.proofs.Swaps.{turn, turn_twice, get-swap, swap-set, length-apply_swaps, same_before}
+use Rattle.base_laws.proofs.Swaps.{turn, turn_twice, get-swap, swap-set, length-apply_swaps, same_before}
 
 module _ {A : Type 0} (Change : A → A → A → A → Type 0) where
   meets_swapped : (before after : List A) (i j : ℕ) → i < length before → j < length before → Meets Change before after → Meets Change (swap before i j) (swap after i j)

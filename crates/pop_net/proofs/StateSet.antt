@@ -5,7 +5,7 @@ use Rattle.std.proofs.lemmas.Bool.{cases_eq}
 use Rattle.std.proofs.lemmas.List.{get_or-set_same, get_or-set_other}
 use Rattle.pop_leaf.specs.LeafModel.{LeafModel}
 use Rattle.pop_leaf.specs.NetModel.{Tuple, AreStates, state_of}
-use Rattle.list_laws.proofs.Options.{same_value}
+use Rattle.base_laws.proofs.Options.{same_value}
 
 pub states_set : (leaves : List LeafModel) (tuple : Tuple) (i q : ℕ) (leaf : LeafModel) → slice_get leaves i ≡ Some leaf → i < length tuple → q < length leaf.states → AreStates leaves tuple → AreStates leaves (slice_set tuple i q)
 states_set leaves tuple i q leaf h within l states j other k = by_leaf (cases_eq j i)

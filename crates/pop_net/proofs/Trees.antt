@@ -17,7 +17,7 @@ use Rattle.pop_leaf.specs.declared.item.Item.{Item}
 use Rattle.pop_leaf.specs.declared.item.Item.TheVariants.{Leaf, Not, And, Or}
 use Rattle.pop_leaf.specs.NetModel.{Operators, after_item, after_items, depth_operators}
 use Rattle.pop_net.specs.NetFaults.{names_below, are_low, stands, operands_left, fault_of_combination}
-use Rattle.list_laws.proofs.Options.{then_itself}
+use Rattle.base_laws.proofs.Options.{then_itself}
 
 abbrev pub is_low : ℕ → Bool
 is_low d = nat_le d 65

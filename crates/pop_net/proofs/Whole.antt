@@ -16,7 +16,7 @@ use Rattle.pop_leaf.specs.NetModel.{after_item, after_items, depth_operators, on
 use Rattle.pop_net.specs.NetFaults.{names_below, are_low, stands, operands_left, IsTree, fault_of_combination}
 use Rattle.pop_leaf.proofs.FirstFault.{NoneIff, first_of-nil, first_of-cons, none_unless, none_map, none_below}
 use Rattle.pop_net.proofs.Trees.{low_decides, after_items-append}
-use Rattle.list_laws.proofs.Options.{some_before, some_and}
+use Rattle.base_laws.proofs.Options.{some_before, some_and}
 
 name_below : (n : ℕ) (item : Item) → Decides (names_below n item) (NamesBelow n item)
 name_below n (Leaf i) = Decides-ltb i n

@@ -21,7 +21,7 @@ pub use fault::{CombinationFault, NetFault};
 pub use net::{Net, Word};
 pub use open_trees::OpenTrees;
 pub use pop_leaf::{
-    DEPTH_LIMIT, HELPER_LIMIT, ITEM_LIMIT, Item, LEAF_LIMIT, Leaf, LeafFault, MOVE_LIMIT, Move,
+    HELPER_LIMIT, ITEM_LIMIT, Item, LEAF_LIMIT, Leaf, LeafFault, MOVE_LIMIT, Move,
     NARROW_STATE_LIMIT, STATE_LIMIT, WIDE_LEAF_LIMIT,
 };
 pub use rules::wide_leaf;

@@ -19,7 +19,7 @@ use Rattle.pop_settle.specs.Settlement.{states_in, CanMake, CanTake, crowd_after
 use Rattle.pop_settle.specs.Settling.{AreLayersValid}
 use Rattle.pop_settle.specs.Laws.{AreSteps, AreTerminal}
 use Rattle.pop_settle.proofs.Taking.{net_step, taken_tuples}
-use Rattle.list_laws.proofs.Options.{item_within}
+use Rattle.base_laws.proofs.Options.{item_within}
 
 module _ (net : NetModel) (proof : Proof) (crowd : CrowdModel) (none : (layer place : ℕ) (take : Take) → CanTake net proof crowd layer place take → ⊥) (i : ℕ) (leaf : LeafModel) (part : LeafProof) (h : slice_get net.leaves i ≡ Some leaf) (k : slice_get proof.leaves i ≡ Some part) (v : ValidLayers leaf part.layers) where
   -- no two agents can make a non-silent move

@@ -11,7 +11,7 @@ use Rattle.pop_settle.specs.declared.take.Take.{Take}
 use Rattle.pop_settle.specs.Settlement.{states_in, CanMake, CanTake, Then, IsBefore, IsNext}
 use Rattle.pop_settle.specs.Search.{IsFirstTake}
 use Rattle.pop_settle.specs.Walks.{IsQuietBefore}
-use Rattle.list_laws.proofs.Options.{same_value}
+use Rattle.base_laws.proofs.Options.{same_value}
 
 module _ (net : NetModel) (proof : Proof) (crowd : CrowdModel) (take : Take) (j : ℕ) (leaf : LeafModel) (part : LeafProof) (list : Layer) (h : slice_get net.leaves take.leaf ≡ Some leaf) (k : slice_get proof.leaves take.leaf ≡ Some part) (m : slice_get part.layers j ≡ Some list) (first : IsFirstTake leaf list.moves (states_in take.leaf crowd) take) where
   abbrev pub can_first : CanTake net proof crowd j first.place take

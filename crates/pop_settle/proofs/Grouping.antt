@@ -10,7 +10,7 @@ use Rattle.pop_leaf.specs.declared.leaf.Move.{Move}
 use Rattle.pop_leaf.specs.LeafModel.{silent_move}
 use Rattle.pop_settle.specs.Settlement.{CanMake, Then}
 use Rattle.pop_settle.specs.Groups.{holds, AreAlike, AreGroups, IsEmptyGroup, IsLeastOf, Changes, Puts, Takes, IsLeastPairFor, states_after_move}
-use Rattle.list_laws.proofs.Lists.{slice_get-set_same, slice_get-set_apart}
+use Rattle.base_laws.proofs.Lists.{slice_get-set_same, slice_get-set_apart}
 use Rattle.pop_leaf.proofs.Quiet.{set_same}
 
 -- what Changes says at the changed place, and elsewhere

@@ -17,7 +17,7 @@ use Rattle.pop_settle.specs.Settlement.{states_in, CanMake, CanTake, IsNext, cro
 use Rattle.pop_settle.specs.Search.{IsIdle}
 use Rattle.pop_settle.specs.Walks.{IsQuietBefore}
 use Rattle.pop_settle.proofs.Taking.{leaf_step, elsewhere, here}
-use Rattle.list_laws.proofs.Options.{same_value}
+use Rattle.base_laws.proofs.Options.{same_value}
 
 -- the move of a take that can be made, in its layer
 abbrev pub in_layer : (net : NetModel) (proof : Proof) (crowd : CrowdModel) (layer place : ℕ) (take : Take) (c : CanTake net proof crowd layer place take) → IsInLayer c.leaf c.part.layers layer c.move

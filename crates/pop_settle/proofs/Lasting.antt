@@ -28,7 +28,7 @@ use Rattle.pop_settle.specs.Walks.{IsQuietBefore}
 use Rattle.pop_settle.proofs.Taking.{leaf_step, elsewhere, here, net_step, taken_tuples}
 use Rattle.pop_settle.proofs.Hushed.{in_layer, stays_quiet, least_quiet}
 use Rattle.pop_settle.proofs.Fuel.{fuel, fuel_falls, fuel_most}
-use Rattle.list_laws.proofs.Options.{same_value}
+use Rattle.base_laws.proofs.Options.{same_value}
 
 -- each agent has a state of each leaf
 pub record InRanges (net : NetModel) (crowd : CrowdModel) : Type 0 where

@@ -20,8 +20,8 @@ use Rattle.pop_settle.proofs.Hushed.{stays_quiet}
 use Rattle.pop_settle.proofs.Firsts.{can_first, next_first}
 use Rattle.pop_settle.proofs.Fuel.{fuel}
 use Rattle.pop_settle.proofs.Lasting.{InRanges, uses_fuel}
-use Rattle.list_laws.proofs.Lists.{all_front, all_back}
-use Rattle.list_laws.proofs.Options.{item_within}
+use Rattle.base_laws.proofs.Lists.{all_front, all_back}
+use Rattle.base_laws.proofs.Options.{item_within}
 
 -- layer j of leaf i
 pub record AtLayer (net : NetModel) (proof : Proof) (j : ℕ) (layer : Layer) (leaf : LeafModel) (i : ℕ) : Type 0 where

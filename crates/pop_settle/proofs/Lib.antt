@@ -12,3 +12,10 @@ mod Searching
 mod Taking
 mod Walking
 mod Words
+pub mod HushedLeaves
+mod ChosenLayers
+mod Takes
+mod Dead
+pub mod Rests
+mod GoalBounds
+mod GoalGiven

@@ -10,7 +10,7 @@ use Rattle.cert_base.specs.declared.proof.LeafProof.{LeafProof}
 use Rattle.pop_settle.specs.declared.take.Take.{Take}
 use Rattle.pop_settle.specs.Settlement.{CanTake, Then, IsNext, crowd_after_take, LeadsBy}
 use Rattle.pop_settle.specs.Laws.{AreOne}
-use Rattle.list_laws.proofs.Options.{same_value}
+use Rattle.base_laws.proofs.Options.{same_value}
 
 -- if neither of two numbers comes first, they are the same, and what is compared next decides
 apart : (m n : ℕ) (P Q : Type 0) → (Then m n P → ⊥) → (Then n m Q → ⊥) → (m ≡ n) × (P → ⊥) × (Q → ⊥)

@@ -8,7 +8,7 @@ use Rattle.pop_leaf.specs.declared.leaf.Move.{Move}
 use Rattle.pop_leaf.specs.LeafModel.{LeafModel}
 use Rattle.pop_settle.specs.Groups.{holds, AreGroups, IsEmptyGroup}
 use Rattle.pop_settle.specs.Search.{IsIdle, BeginAlike, IsStretch}
-use Rattle.list_laws.proofs.Options.{same_value, item_within}
+use Rattle.base_laws.proofs.Options.{same_value, item_within}
 
 alike_itself : (leaf : LeafModel) (moves : List ℕ) (k j : ℕ) → j ≡ k → BeginAlike leaf moves k j
 alike_itself leaf moves k j e step step' t t' h m h' m' =

@@ -7,7 +7,7 @@ use Rattle.pop_leaf.specs.declared.leaf.Move.{Move}
 use Rattle.pop_leaf.specs.LeafModel.{LeafModel}
 use Rattle.pop_settle.specs.Settlement.{CanMake}
 use Rattle.pop_settle.specs.Search.{IsIdle}
-use Rattle.list_laws.proofs.Options.{same_value}
+use Rattle.base_laws.proofs.Options.{same_value}
 
 pub idle_more : (leaf : LeafModel) (moves states : List ℕ) (n step : ℕ) (t : Move) → slice_get moves n ≡ Some step → slice_get leaf.moves step ≡ Some t → ((k : ℕ) → k < n → IsIdle leaf moves states k) → ((a b : ℕ) → CanMake states t a b → ⊥) → (k : ℕ) → k < n + 1 → IsIdle leaf moves states k
 idle_more leaf moves states n step t h m before none k l step' t' a b h' m' can = by_place (cases_lt k n)

@@ -13,7 +13,7 @@ use Rattle.cert_base.specs.declared.proof.Proof.{Proof}
 use Rattle.cert_base.proofs.Agents.{move_change, move_step}
 use Rattle.pop_settle.specs.declared.take.Take.{Take}
 use Rattle.pop_settle.specs.Settlement.{states_in, CanTake, tuple_with_state, crowd_after_take}
-use Rattle.list_laws.proofs.Options.{same_value}
+use Rattle.base_laws.proofs.Options.{same_value}
 
 -- the tuple of an agent that holds a state
 abbrev pub tuple_at : CrowdModel → ℕ → Tuple

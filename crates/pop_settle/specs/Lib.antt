@@ -5,3 +5,8 @@ pub mod Settlement
 pub mod Settling
 pub mod Walks
 pub mod Settles
+pub mod Chosen
+pub mod HushedNet
+pub mod Resting
+pub mod SettlesGoals
+pub mod RestLaws

@@ -2,7 +2,7 @@
 use Rattle.std.proofs.Common.{◌≡◌, ℕ, Bool, true, false, nat_lt, List, length, ◌≤◌, Option, Some, None, Result, Ok, Err, refl, ap, subst, ◌∙◌}
 use Rattle.std.specs.Prelude.{MatchBool}
 use Rattle.pop_io.specs.declared.whole.TheConstants.{INPUT_LIMIT}
-use Rattle.pop_lines.specs.Lines.{lines_of}
+use Rattle.base_lines.specs.Lines.{lines_of}
 use Rattle.pres_ast.specs.PredModel.{PredModel}
 use Rattle.pres_read.specs.declared.fault.ReadPred.{ReadPred}
 use Rattle.pres_read.specs.Reading.{pred_read}
@@ -10,8 +10,9 @@ use Rattle.pres_read.proofs.PredTexts.{read_meant}
 use Rattle.pop_words.specs.Vars.{vars_of}
 use Rattle.serde_json.specs.Written.{compact_text}
 use Rattle.cert_json.specs.declared.bundle.Bundle.{Bundle}
-use Rattle.bundle_text.specs.Bundle.{bundle_data}
-use Rattle.bundle_text.proofs.ReadBack.{read_back}
+use Rattle.cert_text.specs.Bundle.{bundle_data}
+use Rattle.cert_text.proofs.ReadBack.{read_back}
+use Rattle.theory_random.specs.ComputesAlmostSurely.{ComputesInCubicTime}
 use Rattle.comp_net.specs.declared.choice.LeafChoice.{LeafChoice}
 use Rattle.tool_texts.specs.declared.refusal.Refusal.{Refusal}
 use Rattle.tool_texts.specs.declared.refusal.Refusal.TheVariants.{TooLong}
@@ -24,7 +25,8 @@ use Rattle.tool_texts.specs.Lines.{just_two}
 use Rattle.tool_texts.specs.Steps.{◌>>=◌}
 use Rattle.tool_bundles.specs.Named.{named, understood}
 use Rattle.tool_nets.specs.Compile.{bundle_line, IsCompiled, asked_by, fits_its_leaves, OfFitting, OfAsked, CompileGives}
-use Rattle.pop_tool.specs.Headline.{IsBundleLine, IsAsked, CompileSays}
+use Rattle.pop_tool.specs.Headline.{bundle_of_silent, IsBundleLine, IsAsked, CompileSays}
+use Rattle.pop_tool.proofs.SilentFiles.{silent_file}
 use Rattle.tool_texts.proofs.Goes.{bind_ok, same_ok}
 use Rattle.pop_tool.proofs.RunHeadline.{two_lines}
 
@@ -36,7 +38,7 @@ refused refusal given is done = let e = subst IsDone is done in cc e
 
 -- the line of a bundle that was compiled is that of the bundle
 compiled_line : (choice : LeafChoice) (names : List (List ℕ)) (pred : PredModel) (bundle : Bundle) → IsCompiled choice names pred bundle → (text : List ℕ) → text ≡ bundle_line bundle
-    → length text ≤ INPUT_LIMIT → IsBundleLine text bundle
+    → length text ≤ INPUT_LIMIT → IsBundleLine text (bundle_of_silent bundle)
 compiled_line choice names pred bundle is text printed short =
     let back = read_back bundle is.writable in
     record {
@@ -45,7 +47,7 @@ compiled_line choice names pred bundle is text printed short =
       lines = ap lines_of printed ∙ back.line;
       value = bundle_data bundle;
       reads = (back.utf8, back.value);
-      file = back.file;
+      file = silent_file bundle (bundle_data bundle) back.file;
     }
 
 names_of : (read : Option (List (List ℕ))) (names : List (List ℕ)) → named read ≡ Ok names → read ≡ Some names
@@ -82,6 +84,7 @@ module _ (choice : LeafChoice) (input : List ℕ) (given : Result Output Refusal
         asked = asked (lines_of input) names pred tells;
         bundle = is.0;
         compiled = is.1;
+        settles = subst (ComputesInCubicTime is.0.net is.0.pred.tree) is.1.bound (is.1.right.cubic is.1.tame);
         printed = printed;
         line = λ short. compiled_line choice names pred is.0 is.1 (output_for given).text printed short;
       }

@@ -3,8 +3,8 @@ use Rattle.std.proofs.Common.{◌≡◌, ℕ, ◌+◌, Bool, true, false, List, 
 use Rattle.std.specs.Prelude.{codes, if◌then◌else◌, is_some, option_map, unwrap_or, slice_index_or, slice_set}
 use Rattle.std.specs.Str.{bytes_eq}
 use Rattle.std.proofs.lemmas.List.{length-set, length-map}
-use Rattle.list_laws.proofs.Options.{some_before}
-use Rattle.pop_lines.specs.Lines.{pieces}
+use Rattle.base_laws.proofs.Options.{some_before}
+use Rattle.base_lines.specs.Lines.{pieces}
 use Rattle.pop_leaf.specs.NetModel.{NetModel}
 use Rattle.pop_crowd.specs.Crowds.{input_size}
 use Rattle.pop_words.specs.Counts.{entry_of, with_entry, with_word, with_words, counts_behind, with_zeros, counts_of}

@@ -1,10 +1,8 @@
--- What holds of runs of a bundle whose proof is valid, with goals or without.
-use Rattle.std.proofs.Common.{◌≡◌, ℕ, ◌≤◌, List, length, None, Ok, refl, sym, ap, subst, ◌∙◌, arith}
+-- What holds of runs of a bundle whose proof is valid.
+use Rattle.std.proofs.Common.{◌≡◌, ℕ, ◌≤◌, Bool, true, false, cond, List, length, None, Ok, refl, sym, ap, subst, arith}
 use Rattle.std.specs.Prelude.{All}
-use Rattle.std.proofs.lemmas.List.{length-map}
 use Rattle.pres_ast.specs.PredicateValue.{predicate_value}
-use Rattle.pop_leaf.specs.LeafModel.{LeafModel}
-use Rattle.pop_leaf.specs.NetModel.{NetModel, Tuple, CrowdModel, IsTuple, number_of_helpers}
+use Rattle.pop_leaf.specs.NetModel.{Tuple, CrowdModel, IsTuple, number_of_helpers}
 use Rattle.pop_leaf.specs.InputCrowd.{IsInput, input_crowd}
 use Rattle.pop_leaf.specs.Step.{Step}
 use Rattle.pop_leaf.specs.Reachable.{Reachable}
@@ -16,34 +14,41 @@ use Rattle.pop_crowd.specs.declared.crowd.Meeting.{Meeting}
 use Rattle.pop_crowd.specs.declared.limits.TheConstants.{AGENT_LEAST, AGENT_LIMIT}
 use Rattle.run_spec.specs.declared.kind.RunKind.{RunKind}
 use Rattle.run_spec.specs.declared.spec.RunSpec.{RunSpec}
-use Rattle.pair_runs.specs.Run.{joined}
-use Rattle.pair_runs.specs.SameLanes.{HaveSameLanes}
-use Rattle.pair_runs.specs.WatchedRun.{IsRunOfUntil}
-use Rattle.journal_text.specs.declared.last.Last.{Last}
-use Rattle.journal_text.specs.Ending.{common_output, quiet_ending, rest_ending, ending_until}
-use Rattle.journal_text.proofs.Looks.{common_some}
+use Rattle.run_picks.specs.Run.{joined}
+use Rattle.run_picks.specs.SameLanes.{HaveSameLanes}
+use Rattle.run_picks.specs.WatchedRun.{IsRunOfUntil}
+use Rattle.run_text.specs.declared.last.Last.{Last}
+use Rattle.run_text.specs.declared.last.Last.TheVariants.{Verdict, Settled}
+use Rattle.run_text.specs.declared.last.Outcome.TheVariants.{Agreed, Known}
+use Rattle.run_text.specs.Ending.{common_output, quiet_ending, rest_ending, ending_until}
+use Rattle.run_text.proofs.Looks.{common_some}
 use Rattle.pop_journal.proofs.RunKinds.{is_watched_until}
-use Rattle.goal_rest.specs.Chosen.{proof_at}
-use Rattle.goal_rest.proofs.HushedLeaves.{states_listed}
-use Rattle.tool_bundles.specs.declared.bundle.AnyBundle.{AnyBundle}
-use Rattle.tool_bundles.specs.declared.bundle.AnyBundle.TheVariants.{Plain, Stable}
-use Rattle.tool_bundles.specs.StableBundles.{IsAnyBegunBy}
-use Rattle.tool_checks.specs.Judged.{IsAnyJudged}
+use Rattle.pop_settle.specs.Chosen.{proof_at}
+use Rattle.pop_settle.proofs.HushedLeaves.{states_listed}
+use Rattle.cert_json.specs.declared.stable.StableBundle.{StableBundle}
+use Rattle.pop_checker.specs.Silent.{is_silent}
+use Rattle.pop_settle.specs.Resting.{resting_net}
+use Rattle.tool_bundles.specs.Bundles.{IsBegunBy}
+use Rattle.tool_rejections.specs.Judged.{IsJudged}
 use Rattle.tool_courses.specs.Course.{Course, course_of}
 use Rattle.tool_bundles.proofs.Begun.{begun_two, begun_few}
 use Rattle.tool_bundles.proofs.InputSize.{length-input_crowd}
-use Rattle.tool_courses.proofs.ProvedBundles.{course_net}
+use Rattle.tool_courses.proofs.ProvedBundles.{same_leaves}
 use Rattle.tool_courses.proofs.Ran.{run_reaches, run_tuples}
 use Rattle.pop_tool.specs.Runs.{IsLastLine}
-use Rattle.pop_tool.proofs.BundleInput.{plain_input, any_counts, file_computes}
+use Rattle.pop_tool.proofs.BundleInput.{bundle_input, begun_counts}
+use Rattle.pop_tool.proofs.SilentBundles.{file_right}
 use Rattle.pop_tool.proofs.LastLine.{is_last, only_last}
 
 -- words mean the same in both nets of a course
-pub course_lanes : (bundle : AnyBundle) (counts : List ℕ) → HaveSameLanes (course_of bundle counts).rest (course_of bundle counts).net
-course_lanes (Plain bundle) counts = refl
-course_lanes (Stable bundle) counts = states_listed bundle.net.leaves (proof_at counts bundle.proof).leaves
+pub course_lanes : (bundle : StableBundle) (counts : List ℕ) → HaveSameLanes (course_of bundle counts).rest (course_of bundle counts).net
+course_lanes bundle counts = by_kind (is_silent bundle.proof)
+  where
+    by_kind : (b : Bool) → HaveSameLanes (cond b bundle.net (resting_net bundle.net bundle.proof counts)) bundle.net
+    by_kind true = refl
+    by_kind false = states_listed bundle.net.leaves (proof_at counts bundle.proof).leaves
 
-module _ (first second : List ℕ) (bundle : AnyBundle) (counts : List ℕ) (begins : IsAnyBegunBy first second (Ok (bundle, counts))) where
+module _ (first second : List ℕ) (bundle : StableBundle) (counts : List ℕ) (begins : IsBegunBy first second (Ok (bundle, counts))) where
   abbrev course : Course
   course = course_of bundle counts
 
@@ -51,8 +56,7 @@ module _ (first second : List ℕ) (bundle : AnyBundle) (counts : List ℕ) (beg
   start = input_crowd course.net counts
 
   pub enough : AGENT_LEAST ≤ input_size course.net counts
-  enough =
-      subst (λ (n : NetModel). AGENT_LEAST ≤ input_size n counts) (sym (course_net bundle counts)) (begun_two begins.0 second bundle counts (sym begins.2))
+  enough = begun_two begins.0 second bundle counts (sym begins.2)
 
   pub least_start : AGENT_LEAST ≤ length start
   least_start =
@@ -61,25 +65,35 @@ module _ (first second : List ℕ) (bundle : AnyBundle) (counts : List ℕ) (beg
 
   pub most_start : length start ≤ AGENT_LIMIT
   most_start =
-      let l = subst (λ (n : NetModel). input_size n counts ≤ AGENT_LIMIT) (sym (course_net bundle counts)) (begun_few begins.0 second bundle counts (sym begins.2)) in
+      let l = begun_few begins.0 second bundle counts (sym begins.2) in
       let e = length-input_crowd course.net counts in omega (arith, l, e)
 
   pub is_input : IsInput (length course.net.variables) (number_of_helpers course.net) counts
-  is_input =
-      subst (λ (n : NetModel). IsInput (length n.variables) (number_of_helpers n) counts) (sym (course_net bundle counts)) (any_counts first second bundle counts begins)
+  is_input = begun_counts first second bundle counts begins
 
 -- what is told of a crowd in which a run ends that leaves no pair
-pub told_at_rest : (first second : List ℕ) (bundle : AnyBundle) (counts : List ℕ) → IsAnyBegunBy first second (Ok (bundle, counts)) → IsAnyJudged bundle None → (end : CrowdModel) → 1 ≤ length end
-    → Reachable (Step (course_of bundle counts).net) (input_crowd (course_of bundle counts).net counts) end → IsTerminal (Step (course_of bundle counts).rest) end
-    → rest_ending (course_of bundle counts).outcome (common_output (course_of bundle counts).net end) ≡ (course_of bundle counts).told
-told_at_rest first second (Plain bundle) counts begins valid end some reached terminal =
-    let input = plain_input first second bundle counts begins in
-    let right = (file_computes bundle input.value input.file valid counts end (is_input first second (Plain bundle) counts begins) reached).right terminal in
-    ap quiet_ending (common_some bundle.net end (predicate_value bundle.pred.tree counts) some right)
-told_at_rest first second (Stable bundle) counts begins valid end some reached terminal = refl
+module _ (first second : List ℕ) (bundle : StableBundle) (counts : List ℕ) (begins : IsBegunBy first second (Ok (bundle, counts))) (valid : IsJudged bundle None) (end : CrowdModel) (some : 1 ≤ length end)
+    (reached : Reachable (Step bundle.net) (input_crowd bundle.net counts) end) where
+  abbrev truth : Bool
+  truth = predicate_value bundle.pred.tree counts
+
+  told_silent : is_silent bundle.proof ≡ true → IsTerminal (Step bundle.net) end → rest_ending Agreed (common_output bundle.net end) ≡ Verdict truth
+  told_silent silent terminal =
+      let input = bundle_input first second bundle counts begins in
+      let right = ((file_right bundle silent input.value input.file valid).computes counts end (is_input first second bundle counts begins) reached).right terminal in
+      ap quiet_ending (common_some bundle.net end truth some right)
+
+  told_by_kind : (b : Bool) → is_silent bundle.proof ≡ b → IsTerminal (Step (cond b bundle.net (resting_net bundle.net bundle.proof counts))) end
+      → rest_ending (cond b Agreed (Known truth)) (common_output bundle.net end) ≡ cond b (Verdict truth) (Settled truth)
+  told_by_kind true silent terminal = told_silent silent terminal
+  told_by_kind false goals terminal = refl
+
+  pub told_at_rest : IsTerminal (Step (course_of bundle counts).rest) end
+      → rest_ending (course_of bundle counts).outcome (common_output (course_of bundle counts).net end) ≡ (course_of bundle counts).told
+  told_at_rest = told_by_kind (is_silent bundle.proof) refl
 
 -- a run of its net from its input crowd
-module _ (first second : List ℕ) (bundle : AnyBundle) (counts : List ℕ) (begins : IsAnyBegunBy first second (Ok (bundle, counts))) (valid : IsAnyJudged bundle None)
+module _ (first second : List ℕ) (bundle : StableBundle) (counts : List ℕ) (begins : IsBegunBy first second (Ok (bundle, counts))) (valid : IsJudged bundle None)
     (kind : RunKind) (spec : RunSpec) (rounds : List (List Meeting)) (end : CrowdModel)
     (run : IsRunOfUntil kind (course_of bundle counts).rest (course_of bundle counts).net (input_crowd (course_of bundle counts).net counts) spec rounds end) where
   abbrev way : Course
@@ -90,11 +104,7 @@ module _ (first second : List ℕ) (bundle : AnyBundle) (counts : List ℕ) (beg
 
   pub rest_tuples : All (IsTuple way.rest) end
   rest_tuples =
-      let same : length way.rest.leaves ≡ length way.net.leaves =
-      sym (length-map way.rest.leaves (λ (leaf : LeafModel). length leaf.states))
-      ∙ ap length (course_lanes bundle counts)
-      ∙ length-map way.net.leaves (λ (leaf : LeafModel). length leaf.states) in
-      subst (λ (n : ℕ). All (λ (t : Tuple). length t ≡ n) end) (sym same)
+      subst (λ (n : ℕ). All (λ (t : Tuple). length t ≡ n) end) (sym (same_leaves bundle counts))
       (run_tuples way.rest way.net counts (enough first second bundle counts begins) kind spec rounds end run)
 
   some_agent : 1 ≤ length end

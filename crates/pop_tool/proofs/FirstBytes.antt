@@ -1,15 +1,15 @@
 -- The first byte of a text tells whether it is a refusal, a rejection or a difference.
 use Rattle.std.proofs.Common.{◌≡◌, ℕ, List, get_or, refl}
-use Rattle.pop_lines.specs.Lines.{ended}
-use Rattle.journal_text.specs.Difference.{Difference}
+use Rattle.base_lines.specs.Lines.{ended}
+use Rattle.run_text.specs.Difference.{Difference}
 use Rattle.pop_checker.specs.declared.fault.Rejected.{Rejected}
 use Rattle.pop_checker.specs.declared.fault.Rejected.TheVariants.{Layers, Tree, Predicate}
-use Rattle.goal_checker.specs.declared.fault.StableRejected.{StableRejected}
-use Rattle.goal_checker.specs.declared.fault.StableRejected.TheVariants.{Plain, Goal}
+use Rattle.pop_checker.specs.declared.stable_fault.StableRejected.{StableRejected}
+use Rattle.pop_checker.specs.declared.stable_fault.StableRejected.TheVariants.{Plain, Goal}
 use Rattle.tool_texts.specs.declared.refusal.Refusal.{Refusal}
 use Rattle.tool_texts.specs.declared.refusal.Refusal.TheVariants.{TooLong, Line, NotJson, Format, Pred, Count, Size, Journal, Atoms, Range, Width, States, Wide, Settle}
 use Rattle.tool_texts.specs.Refusals.{refusal_text}
-use Rattle.tool_rejections.specs.Rejections.{rejected_text, stable_rejected_text}
+use Rattle.tool_rejections.specs.Rejections.{silent_text, rejected_text}
 use Rattle.tool_texts.specs.Differences.{difference_text}
 
 unfoldable pub first_byte : List ℕ → ℕ
@@ -34,16 +34,16 @@ refusal_begins (Wide atom) = refl
 refusal_begins (Settle takes) = refl
 
 -- an r
-pub rejection_begins : (rejected : Rejected) → first_byte (ended (rejected_text rejected)) ≡ 114
+silent_begins : (rejected : Rejected) → first_byte (ended (silent_text rejected)) ≡ 114
 unfolding first_byte
-rejection_begins (Layers leaf why) = refl
-rejection_begins (Tree leaf value node why) = refl
-rejection_begins Predicate = refl
+silent_begins (Layers leaf why) = refl
+silent_begins (Tree leaf value node why) = refl
+silent_begins Predicate = refl
 
-pub stable_rejection_begins : (rejected : StableRejected) → first_byte (ended (stable_rejected_text rejected)) ≡ 114
+pub rejection_begins : (rejected : StableRejected) → first_byte (ended (rejected_text rejected)) ≡ 114
 unfolding first_byte
-stable_rejection_begins (Plain rejected) = rejection_begins rejected
-stable_rejection_begins (Goal leaf value why) = refl
+rejection_begins (Plain rejected) = silent_begins rejected
+rejection_begins (Goal leaf value why) = refl
 
 -- a d
 pub difference_begins : (difference : Difference) → first_byte (difference_text difference) ≡ 100

@@ -1,57 +1,31 @@
 -- A journal that is read and holds is the text of a run, and no other text is.
-use Rattle.std.proofs.Common.{◌≡◌, ◌⊎◌, inl, inr, ℕ, ◌*◌, ◌≤◌, List, ◌∷◌, ◌++◌, codes, length, None, Ok, sym, ap, subst, ◌∙◌, arith}
-use Rattle.pop_lines.specs.Lines.{lines_of}
+use Rattle.std.proofs.Common.{◌≡◌, ℕ, ◌*◌, ◌≤◌, List, ◌∷◌, ◌++◌, codes, length, Ok, sym, ap, subst, ◌∙◌, arith}
+use Rattle.base_lines.specs.Lines.{lines_of}
 use Rattle.pop_leaf.specs.NetModel.{CrowdModel}
 use Rattle.pop_leaf.specs.InputCrowd.{input_crowd}
-use Rattle.pop_crowd.specs.declared.crowd.Meeting.{Meeting}
 use Rattle.pop_crowd.specs.declared.limits.TheConstants.{AGENT_LIMIT}
 use Rattle.run_spec.specs.declared.kind.RunKind.{RunKind}
 use Rattle.run_spec.specs.declared.spec.RunSpec.{RunSpec}
 use Rattle.run_spec.specs.declared.spec.TheConstants.{MEETING_LIMIT}
 use Rattle.run_spec.specs.Kinds.{most_workers_of}
 use Rattle.run_spec.specs.RunLimits.{IsWithinLimits}
-use Rattle.pair_runs.specs.Run.{joined}
-use Rattle.pair_runs.specs.WatchedRun.{IsRunOfUntil}
-use Rattle.journal_text.specs.declared.last.Last.{Last}
-use Rattle.journal_text.specs.Journal.{run_line, round_lines, journal_text}
-use Rattle.journal_text.specs.Ending.{ending_until}
+use Rattle.run_picks.specs.WatchedRun.{IsRunOfUntil}
+use Rattle.run_text.specs.declared.last.Last.{Last}
+use Rattle.run_text.specs.Journal.{run_line, round_lines, journal_text}
+use Rattle.run_text.specs.Ending.{ending_until}
 use Rattle.pop_journal.specs.Expected.{whole_tail_until, HoldsUntil}
 use Rattle.pop_journal.specs.Form.{journal_in}
 use Rattle.pop_journal.specs.Laws.{IsRunReadBackUntil}
 use Rattle.pop_journal.specs.Rounds.{AreRoundsOf}
 use Rattle.pop_journal.proofs.Written.{journal_form, written_is_held_until, cut_until}
-use Rattle.tool_bundles.specs.declared.bundle.AnyBundle.{AnyBundle}
-use Rattle.tool_bundles.specs.declared.bundle.AnyBundle.TheVariants.{Plain, Stable}
-use Rattle.tool_bundles.specs.StableBundles.{IsAnyBegunBy}
-use Rattle.tool_checks.specs.Judged.{IsAnyJudged}
+use Rattle.tool_bundles.specs.Bundles.{IsBegunBy}
 use Rattle.tool_courses.specs.Course.{Course, course_of}
 use Rattle.tool_replays.specs.declared.replay.TheConstants.{JOURNAL_LINE}
 use Rattle.tool_replays.specs.Replay.{journal_read}
-use Rattle.pop_io.specs.declared.whole.TheConstants.{INPUT_LIMIT}
-use Rattle.pop_tool.specs.Runs.{IsLastLine, IsAllowedRun}
 use Rattle.pop_tool.specs.Headline.{IsHeldInput}
-use Rattle.pop_tool.specs.StableHeadline.{IsStableHeldInput}
-use Rattle.pop_tool.proofs.BundleInput.{plain_input, stable_input, plain_begins, stable_begins}
+use Rattle.pop_tool.proofs.BundleInput.{bundle_input, input_begins}
 use Rattle.pop_tool.proofs.Courses.{least_start, most_start, run_ends, run_ends_only}
 use Rattle.pop_tool.proofs.ReplayHeadline.{IsReadHeld, read_ok}
-
--- the input is this bundle, whose proof is valid, a crowd line, and the text of a journal of a run with this many meetings
-record IsAnyHeld (kind : RunKind) (input : List ℕ) (meetings : ℕ) (bundle : AnyBundle) : Type 0 where
-  short : length input ≤ INPUT_LIMIT
-  first : List ℕ
-  second : List ℕ
-  counts : List ℕ
-  begins : IsAnyBegunBy first second (Ok (bundle, counts))
-  valid : IsAnyJudged bundle None
-  spec : RunSpec
-  allowed : IsAllowedRun kind spec
-  rounds : List (List Meeting)
-  end : CrowdModel
-  run : IsRunOfUntil kind (course_of bundle counts).rest (course_of bundle counts).net (input_crowd (course_of bundle counts).net counts) spec rounds end
-  last : Last
-  ends : IsLastLine (course_of bundle counts).rest (course_of bundle counts).told end last
-  lines : lines_of input ≡ first ∷ second ∷ lines_of (journal_text kind (course_of bundle counts).net spec rounds end last)
-  all : length (joined rounds) ≡ meetings
 
 module _ (kind : RunKind) (input : List ℕ) (k : ℕ) (held : IsReadHeld kind input k) where
   abbrev course : Course
@@ -81,14 +55,15 @@ module _ (kind : RunKind) (input : List ℕ) (k : ℕ) (held : IsReadHeld kind i
       ∙ ap (λ (tail : List (List ℕ)). run_line kind held.journal.spec ∷ (round_lines 1 held.journal.rounds ++ codes "end" ∷ tail)) held.holds.2
       ∙ sym (cut_until course.rest course.outcome kind course.net start held.journal.spec held.journal.rounds held.holds.0 (least_start held.first held.second held.bundle held.counts held.begins) few_agents form.1 run)
 
-  any_held : IsAnyHeld kind input k held.bundle
-  any_held =
+  pub read_held : IsHeldInput kind input k
+  read_held =
       record {
         short = held.short;
         first = held.first;
         second = held.second;
+        bundle = held.bundle;
         counts = held.counts;
-        begins = held.begins;
+        begins = bundle_input held.first held.second held.bundle held.counts held.begins;
         valid = held.valid;
         spec = held.journal.spec;
         allowed = record { each = form.1; workers = form.3; meetings = form.4 };
@@ -101,125 +76,38 @@ module _ (kind : RunKind) (input : List ℕ) (k : ℕ) (held : IsReadHeld kind i
         all = held.all;
       }
 
-module _ (kind : RunKind) (input : List ℕ) (k : ℕ) (bundle : AnyBundle) (held : IsAnyHeld kind input k bundle) where
+module _ (kind : RunKind) (input : List ℕ) (k : ℕ) (held : IsHeldInput kind input k) where
+  begins : IsBegunBy held.first held.second (Ok (held.bundle, held.counts))
+  begins = input_begins held.first held.second held.bundle held.counts held.begins
+
   abbrev way : Course
-  way = course_of bundle held.counts
+  way = course_of held.bundle held.counts
 
   abbrev begun : CrowdModel
   begun = input_crowd way.net held.counts
 
   last : held.last ≡ ending_until way.rest way.outcome way.net held.end
   last =
-      run_ends_only held.first held.second bundle held.counts held.begins held.valid kind held.spec held.rounds held.end held.run held.last held.ends
+      run_ends_only held.first held.second held.bundle held.counts begins held.valid kind held.spec held.rounds held.end held.run held.last held.ends
 
   written : IsRunReadBackUntil way.rest way.outcome kind way.net begun held.spec held.rounds held.end JOURNAL_LINE × HoldsUntil way.rest way.outcome way.net begun (record { kind = kind; spec = held.spec; rounds = held.rounds; tail = lines_of (whole_tail_until way.rest way.outcome way.net held.end); first = JOURNAL_LINE })
   written =
-      written_is_held_until way.rest way.outcome kind way.net begun held.spec held.rounds held.end JOURNAL_LINE (least_start held.first held.second bundle held.counts held.begins) (most_start held.first held.second bundle held.counts held.begins) held.allowed.each held.allowed.workers held.allowed.meetings held.run
+      written_is_held_until way.rest way.outcome kind way.net begun held.spec held.rounds held.end JOURNAL_LINE (least_start held.first held.second held.bundle held.counts begins) (most_start held.first held.second held.bundle held.counts begins) held.allowed.each held.allowed.workers held.allowed.meetings held.run
 
-  held_any : IsReadHeld kind input k
-  held_any =
+  pub held_read : IsReadHeld kind input k
+  held_read =
       record {
         short = held.short;
         first = held.first;
         second = held.second;
         more = lines_of (journal_text kind way.net held.spec held.rounds held.end (ending_until way.rest way.outcome way.net held.end));
         lines = held.lines ∙ ap (λ (last : Last). held.first ∷ held.second ∷ lines_of (journal_text kind way.net held.spec held.rounds held.end last)) last;
-        bundle = bundle;
+        bundle = held.bundle;
         counts = held.counts;
-        begins = held.begins;
+        begins = begins;
         valid = held.valid;
         journal = record { kind = kind; spec = held.spec; rounds = held.rounds; tail = lines_of (whole_tail_until way.rest way.outcome way.net held.end); first = JOURNAL_LINE };
         read = ap (journal_read kind) written.0;
         holds = written.1;
         all = held.all;
       }
-
--- ---- a bundle without goals, or one with goals
-
-module _ (kind : RunKind) (input : List ℕ) (k : ℕ) where
-  of_any : (bundle : AnyBundle) → IsAnyHeld kind input k bundle → IsHeldInput kind input k ⊎ IsStableHeldInput kind input k
-  of_any (Plain bundle) held =
-      inl (record {
-        short = held.short;
-        first = held.first;
-        second = held.second;
-        bundle = bundle;
-        counts = held.counts;
-        begins = plain_input held.first held.second bundle held.counts held.begins;
-        valid = held.valid;
-        spec = held.spec;
-        allowed = held.allowed;
-        rounds = held.rounds;
-        end = held.end;
-        run = held.run;
-        last = held.last;
-        ends = held.ends;
-        lines = held.lines;
-        all = held.all;
-      })
-  of_any (Stable bundle) held =
-      inr (record {
-        short = held.short;
-        first = held.first;
-        second = held.second;
-        bundle = bundle;
-        counts = held.counts;
-        begins = stable_input held.first held.second bundle held.counts held.begins;
-        valid = held.valid;
-        spec = held.spec;
-        allowed = held.allowed;
-        rounds = held.rounds;
-        end = held.end;
-        run = held.run;
-        last = held.last;
-        ends = held.ends;
-        lines = held.lines;
-        all = held.all;
-      })
-
-  from_plain : (held : IsHeldInput kind input k) → IsAnyHeld kind input k (Plain held.bundle)
-  from_plain held =
-      record {
-        short = held.short;
-        first = held.first;
-        second = held.second;
-        counts = held.counts;
-        begins = plain_begins held.first held.second held.bundle held.counts held.begins;
-        valid = held.valid;
-        spec = held.spec;
-        allowed = held.allowed;
-        rounds = held.rounds;
-        end = held.end;
-        run = held.run;
-        last = held.last;
-        ends = held.ends;
-        lines = held.lines;
-        all = held.all;
-      }
-
-  from_stable : (held : IsStableHeldInput kind input k) → IsAnyHeld kind input k (Stable held.bundle)
-  from_stable held =
-      record {
-        short = held.short;
-        first = held.first;
-        second = held.second;
-        counts = held.counts;
-        begins = stable_begins held.first held.second held.bundle held.counts held.begins;
-        valid = held.valid;
-        spec = held.spec;
-        allowed = held.allowed;
-        rounds = held.rounds;
-        end = held.end;
-        run = held.run;
-        last = held.last;
-        ends = held.ends;
-        lines = held.lines;
-        all = held.all;
-      }
-
-  pub read_held : IsReadHeld kind input k → IsHeldInput kind input k ⊎ IsStableHeldInput kind input k
-  read_held held = of_any held.bundle (any_held kind input k held)
-
-  pub held_read : IsHeldInput kind input k ⊎ IsStableHeldInput kind input k → IsReadHeld kind input k
-  held_read (inl held) = held_any kind input k (Plain held.bundle) (from_plain held)
-  held_read (inr held) = held_any kind input k (Stable held.bundle) (from_stable held)

@@ -6,11 +6,11 @@ use Rattle.pop_leaf.specs.Step.{Step}
 use Rattle.pop_leaf.specs.Terminal.{IsTerminal}
 use Rattle.terminal_test.specs.Pairs.{IsLeastPair}
 use Rattle.terminal_test.proofs.Ends.{not_terminal}
-use Rattle.journal_text.specs.declared.last.Last.{Last}
-use Rattle.journal_text.specs.declared.last.Last.TheVariants.{Undecided}
-use Rattle.journal_text.specs.declared.last.Outcome.{Outcome}
-use Rattle.journal_text.specs.Ending.{least_pair, common_output, rest_ending, ending_with, ending_until}
-use Rattle.journal_text.proofs.Looks.{least_some, least_found, least_of_terminal, terminal_of}
+use Rattle.run_text.specs.declared.last.Last.{Last}
+use Rattle.run_text.specs.declared.last.Last.TheVariants.{Undecided}
+use Rattle.run_text.specs.declared.last.Outcome.{Outcome}
+use Rattle.run_text.specs.Ending.{least_pair, common_output, rest_ending, ending_with, ending_until}
+use Rattle.run_text.proofs.Looks.{least_some, least_found, least_of_terminal, terminal_of}
 use Rattle.pop_tool.specs.Runs.{IsLastLine}
 
 module _ (rest net : NetModel) (end : CrowdModel) (tuples : All (IsTuple rest) end) (outcome : Outcome) (told : Last) (at_rest : IsTerminal (Step rest) end → rest_ending outcome (common_output net end) ≡ told) where

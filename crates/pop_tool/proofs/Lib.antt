@@ -6,9 +6,10 @@ mod Puts
 mod OneAnswer
 mod CountLengths
 mod BundleInput
+mod SilentBundles
 mod FirstBytes
+mod TwoLines
 mod CheckHeadline
-mod StableHeadline
 mod ShowHeadline
 mod ShowChecked
 mod LastLine
@@ -18,8 +19,10 @@ mod Decimals
 mod ReplayHeadline
 mod HeldText
 mod RunHeld
+mod SilentFiles
 mod CompileHeadline
 mod CompileChecked
 mod SettleHeadline
+mod Told
 mod Headlines
 pub mod Complete

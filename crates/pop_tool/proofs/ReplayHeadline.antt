@@ -4,7 +4,7 @@ use Rattle.std.specs.Prelude.{MatchBool}
 use Rattle.std.proofs.lemmas.Bool.{le-ltb, ltb-false}
 use Rattle.std.proofs.lemmas.List.{append_cancel_right}
 use Rattle.pop_io.specs.declared.whole.TheConstants.{INPUT_LIMIT}
-use Rattle.pop_lines.specs.Lines.{lines_of, ended}
+use Rattle.base_lines.specs.Lines.{lines_of, ended}
 use Rattle.pop_leaf.specs.NetModel.{CrowdModel}
 use Rattle.pop_leaf.specs.InputCrowd.{input_crowd}
 use Rattle.pop_net.proofs.Tuples.{input_tuples}
@@ -14,15 +14,15 @@ use Rattle.run_spec.specs.declared.kind.RunKind.TheVariants.{Whole, Watched}
 use Rattle.pop_words.specs.Words.{replay_command}
 use Rattle.run_spec.specs.declared.spec.RunSpec.{RunSpec}
 use Rattle.run_spec.specs.RunLimits.{IsWithinLimits}
-use Rattle.pair_runs.specs.Run.{joined}
+use Rattle.run_picks.specs.Run.{joined}
 use Rattle.pop_journal.specs.declared.journal.Journal.{Journal}
 use Rattle.pop_journal.specs.Rounds.{AreRoundsOf}
 use Rattle.pop_journal.specs.Form.{Parts, Out, journal_in}
-use Rattle.journal_text.specs.Difference.{Difference}
+use Rattle.run_text.specs.Difference.{Difference}
 use Rattle.pop_journal.specs.Expected.{first_difference, journal_compared_until, HoldsUntil}
 use Rattle.pop_journal.proofs.Written.{journal_form, few_meetings}
 use Rattle.pop_journal.proofs.Verdicts.{none_held_until, held_none_until}
-use Rattle.goal_checker.specs.declared.fault.StableRejected.{StableRejected}
+use Rattle.pop_checker.specs.declared.stable_fault.StableRejected.{StableRejected}
 use Rattle.tool_texts.specs.declared.refusal.Refusal.{Refusal}
 use Rattle.tool_texts.specs.declared.refusal.Refusal.TheVariants.{TooLong}
 use Rattle.tool_texts.specs.declared.output.Output.{Output}
@@ -30,19 +30,19 @@ use Rattle.tool_texts.specs.Steps.{◌>>=◌, After}
 use Rattle.tool_texts.specs.Lines.{two_and_some}
 use Rattle.tool_texts.specs.Differences.{difference_text}
 use Rattle.tool_texts.specs.Refusals.{refusal_text, output_for}
-use Rattle.tool_rejections.specs.Rejections.{stable_rejected_text}
+use Rattle.tool_rejections.specs.Rejections.{rejected_text}
 use Rattle.tool_replays.specs.declared.replay.TheConstants.{JOURNAL_LINE}
-use Rattle.tool_bundles.specs.declared.bundle.AnyBundle.{AnyBundle}
-use Rattle.tool_bundles.specs.StableBundles.{IsAnyBegunBy}
-use Rattle.tool_checks.specs.Judged.{IsAnyJudged}
+use Rattle.cert_json.specs.declared.stable.StableBundle.{StableBundle}
+use Rattle.tool_bundles.specs.Bundles.{IsBegunBy}
+use Rattle.tool_rejections.specs.Judged.{IsJudged}
 use Rattle.tool_courses.specs.Course.{Course, course_of}
 use Rattle.tool_replays.specs.Replay.{holds_text, holds_output, journal_read, compared_output, journal_output, replay_output, judged_output, OfBegun, OfLines, ReplayGives}
-use Rattle.tool_checks.proofs.OneJudged.{one_any_judged}
-use Rattle.tool_bundles.proofs.OneBundle.{one_any_begin}
+use Rattle.tool_rejections.proofs.OneJudged.{one_judged}
+use Rattle.tool_bundles.proofs.OneBundle.{one_begin}
 use Rattle.pop_tool.specs.Answer.{InputGives}
 use Rattle.pop_tool.proofs.Decimals.{one_decimal}
 use Rattle.pop_tool.proofs.Courses.{least_start, most_start, course_lanes}
-use Rattle.pop_tool.proofs.FirstBytes.{first_byte, refusal_begins, stable_rejection_begins, difference_begins}
+use Rattle.pop_tool.proofs.FirstBytes.{first_byte, refusal_begins, rejection_begins, difference_begins}
 
 -- the input is a bundle whose proof is valid, a crowd line, and a journal that is read and holds
 pub record IsReadHeld (kind : RunKind) (input : List ℕ) (meetings : ℕ) : Type 0 where
@@ -51,10 +51,10 @@ pub record IsReadHeld (kind : RunKind) (input : List ℕ) (meetings : ℕ) : Typ
   pub second : List ℕ
   pub more : List (List ℕ)
   pub lines : lines_of input ≡ first ∷ second ∷ more
-  pub bundle : AnyBundle
+  pub bundle : StableBundle
   pub counts : List ℕ
-  pub begins : IsAnyBegunBy first second (Ok (bundle, counts))
-  pub valid : IsAnyJudged bundle None
+  pub begins : IsBegunBy first second (Ok (bundle, counts))
+  pub valid : IsJudged bundle None
   pub journal : Journal
   pub read : journal_read kind (journal_in kind (length (input_crowd (course_of bundle counts).net counts)) JOURNAL_LINE more) ≡ Ok journal
   pub holds : HoldsUntil (course_of bundle counts).rest (course_of bundle counts).outcome (course_of bundle counts).net (input_crowd (course_of bundle counts).net counts) journal
@@ -65,9 +65,9 @@ not_refusal : (refusal : Refusal) (k : ℕ) → ended (refusal_text refusal) ≡
 unfolding first_byte
 not_refusal refusal k e = let b : 102 ≡ 104 = sym (refusal_begins refusal) ∙ ap first_byte e in absurd (omega (arith, b))
 
-not_rejection : (rejected : StableRejected) (k : ℕ) → ended (stable_rejected_text rejected) ≡ ended (holds_text k) → ⊥
+not_rejection : (rejected : StableRejected) (k : ℕ) → ended (rejected_text rejected) ≡ ended (holds_text k) → ⊥
 unfolding first_byte
-not_rejection rejected k e = let b : 114 ≡ 104 = sym (stable_rejection_begins rejected) ∙ ap first_byte e in absurd (omega (arith, b))
+not_rejection rejected k e = let b : 114 ≡ 104 = sym (rejection_begins rejected) ∙ ap first_byte e in absurd (omega (arith, b))
 
 not_difference : (difference : Difference) (k : ℕ) → difference_text difference ≡ ended (holds_text k) → ⊥
 unfolding first_byte
@@ -88,7 +88,7 @@ abbrev Printed : Result Output Refusal → ℕ → Type 0
 Printed given k = (output_for given).text ≡ ended (holds_text k)
 
 -- how a bundle and its counts begin
-module _ (kind : RunKind) (first second : List ℕ) (bundle : AnyBundle) (counts : List ℕ) (begins : IsAnyBegunBy first second (Ok (bundle, counts))) where
+module _ (kind : RunKind) (first second : List ℕ) (bundle : StableBundle) (counts : List ℕ) (begins : IsBegunBy first second (Ok (bundle, counts))) where
   abbrev course : Course
   course = course_of bundle counts
 
@@ -159,9 +159,9 @@ some_more : (kind : RunKind) (agents : ℕ) (first second : List ℕ) (more : Li
 some_more kind agents first second [] journal given read of = absurd cc
 some_more kind agents first second (third ∷ more) journal given read of = of
 
-judged_given : (kind : RunKind) (bundle : AnyBundle) (counts : List ℕ) (lines : List (List ℕ)) (judged : Option StableRejected) → IsAnyJudged bundle judged → IsAnyJudged bundle None
+judged_given : (kind : RunKind) (bundle : StableBundle) (counts : List ℕ) (lines : List (List ℕ)) (judged : Option StableRejected) → IsJudged bundle judged → IsJudged bundle None
     → judged_output kind bundle counts lines judged ≡ replay_output kind (course_of bundle counts) (input_crowd (course_of bundle counts).net counts) lines
-judged_given kind bundle counts lines judged is valid = ap (judged_output kind bundle counts lines) (one_any_judged bundle judged None is valid)
+judged_given kind bundle counts lines judged is valid = ap (judged_output kind bundle counts lines) (one_judged bundle judged None is valid)
 
 -- a journal that holds is answered with `holds`
 pub held_given : (kind : RunKind) (input : List ℕ) (k : ℕ) → IsReadHeld kind input k → (given : Result Output Refusal) → InputGives (replay_command kind) input given → given ≡ Ok (holds_output k)
@@ -169,8 +169,8 @@ held_given kind input k held given is =
     let start = input_crowd (course_of held.bundle held.counts).net held.counts in
     let lines : After (two_and_some (held.first ∷ held.second ∷ held.more)) (OfLines kind) given = subst (λ (ls : List (List ℕ)). After (two_and_some ls) (OfLines kind) given) held.lines (short_lines kind input given held.short is) in
     let of = some_more kind (length start) held.first held.second held.more held.journal given held.read lines in
-    let begin = one_any_begin held.first held.second of.0 (Ok (held.bundle, held.counts)) of.1 held.begins in
-    let begun : OfBegun kind held.more (held.bundle, held.counts) given = subst (λ (r : Result (AnyBundle × List ℕ) Refusal). After r (OfBegun kind held.more) given) begin of.2 in
+    let begin = one_begin held.first held.second of.0 (Ok (held.bundle, held.counts)) of.1 held.begins in
+    let begun : OfBegun kind held.more (held.bundle, held.counts) given = subst (λ (r : Result (StableBundle × List ℕ) Refusal). After r (OfBegun kind held.more) given) begin of.2 in
     begun.2 ∙ judged_given kind held.bundle held.counts held.more begun.0 begun.1 held.valid
     ∙ held_output kind held.first held.second held.bundle held.counts held.begins held.more held.journal held.read held.holds
     ∙ ap (λ (n : ℕ). Ok (holds_output n)) held.all
@@ -180,7 +180,7 @@ module _ (k : ℕ) where
   refused refusal given is printed = not_refusal refusal k (subst (λ (g : Result Output Refusal). Printed g k) is printed)
 
   module _ (kind : RunKind) (input first second : List ℕ) (more : List (List ℕ)) (short : length input ≤ INPUT_LIMIT) (lines : lines_of input ≡ first ∷ second ∷ more) where
-    read_only : (bundle : AnyBundle) (counts : List ℕ) → IsAnyBegunBy first second (Ok (bundle, counts)) → IsAnyJudged bundle None → (r : Result Journal Refusal) → journal_read kind (journal_in kind (length (input_crowd (course_of bundle counts).net counts)) JOURNAL_LINE more) ≡ r
+    read_only : (bundle : StableBundle) (counts : List ℕ) → IsBegunBy first second (Ok (bundle, counts)) → IsJudged bundle None → (r : Result Journal Refusal) → journal_read kind (journal_in kind (length (input_crowd (course_of bundle counts).net counts)) JOURNAL_LINE more) ≡ r
         → Printed (r >>= λ journal. Ok (journal_output (course_of bundle counts) (input_crowd (course_of bundle counts).net counts) journal)) k → IsReadHeld kind input k
     read_only bundle counts begins valid (Err refusal) read printed = absurd (not_refusal refusal k printed)
     read_only bundle counts begins valid (Ok journal) read printed =
@@ -201,12 +201,12 @@ module _ (k : ℕ) where
           all = held.1;
         }
 
-    judged_only : (bundle : AnyBundle) (counts : List ℕ) → IsAnyBegunBy first second (Ok (bundle, counts)) → (judged : Option StableRejected) → IsAnyJudged bundle judged → Printed (judged_output kind bundle counts more judged) k → IsReadHeld kind input k
+    judged_only : (bundle : StableBundle) (counts : List ℕ) → IsBegunBy first second (Ok (bundle, counts)) → (judged : Option StableRejected) → IsJudged bundle judged → Printed (judged_output kind bundle counts more judged) k → IsReadHeld kind input k
     judged_only bundle counts begins None is printed =
         read_only bundle counts begins is (journal_read kind (journal_in kind (length (input_crowd (course_of bundle counts).net counts)) JOURNAL_LINE more)) refl printed
     judged_only bundle counts begins (Some rejected) is printed = absurd (not_rejection rejected k printed)
 
-    begun_only : (r : Result (AnyBundle × List ℕ) Refusal) → IsAnyBegunBy first second r → (given : Result Output Refusal) → After r (OfBegun kind more) given → Printed given k → IsReadHeld kind input k
+    begun_only : (r : Result (StableBundle × List ℕ) Refusal) → IsBegunBy first second r → (given : Result Output Refusal) → After r (OfBegun kind more) given → Printed given k → IsReadHeld kind input k
     begun_only (Err refusal) begins given of printed = absurd (refused refusal given of printed)
     begun_only (Ok begin) begins given of printed =
         judged_only begin.0 begin.1 begins of.0 of.1 (subst (λ (g : Result Output Refusal). Printed g k) of.2 printed)

@@ -5,7 +5,7 @@ use Rattle.std.specs.Io.KnownBytes.{IsAtEnd}
 use Rattle.std.proofs.lemmas.Bool.{le-ltb, lt-ltb}
 use Rattle.pop_io.specs.Causes.{HasRisen}
 use Rattle.pop_io.specs.declared.whole.TheConstants.{INPUT_LIMIT}
-use Rattle.pop_lines.specs.Lines.{lines_of}
+use Rattle.base_lines.specs.Lines.{lines_of}
 use Rattle.pop_words.specs.declared.command.Command.{Command}
 use Rattle.pop_words.specs.declared.command.Command.TheVariants.{Play, Eval, Check, Run, Watch, Replay, ReplayWatched, Settle, Compile, Flocks, Demo}
 use Rattle.pop_words.specs.declared.command.Command.TheVariants.{Show, Succinct}

@@ -4,8 +4,8 @@ use Rattle.std.specs.List.{list_any}
 use Rattle.std.proofs.lemmas.Bool.{ne_eqb, or_from}
 use Rattle.std.proofs.lemmas.List.Elements.{All-head, All-tail}
 use Rattle.pop_io.specs.declared.whole.TheConstants.{INPUT_LIMIT}
-use Rattle.pop_lines.specs.Lines.{lines_of, ended}
-use Rattle.pop_lines.proofs.Joined.{lines-joined}
+use Rattle.base_lines.specs.Lines.{lines_of, ended}
+use Rattle.base_lines.proofs.Joined.{lines-joined}
 use Rattle.pop_leaf.specs.NetModel.{CrowdModel, IsTuple}
 use Rattle.pop_leaf.specs.InputCrowd.{input_crowd}
 use Rattle.run_spec.specs.declared.kind.RunKind.{RunKind}
@@ -16,14 +16,14 @@ use Rattle.run_spec.specs.RunLimits.{IsWithinLimits}
 use Rattle.run_spec.specs.Kinds.{most_workers_of}
 use Rattle.pop_words.specs.Words.{meaning_of, run_command, replay_command}
 use Rattle.pop_words.proofs.Limits.{run_bounded}
-use Rattle.pair_runs.specs.Run.{joined}
+use Rattle.run_picks.specs.Run.{joined}
 use Rattle.pop_journal.specs.declared.journal.Journal.{Journal}
-use Rattle.journal_text.specs.declared.last.Last.{Last}
-use Rattle.journal_text.specs.Journal.{journal_text}
-use Rattle.journal_text.specs.Ending.{ending_until}
+use Rattle.run_text.specs.declared.last.Last.{Last}
+use Rattle.run_text.specs.Journal.{journal_text}
+use Rattle.run_text.specs.Ending.{ending_until}
 use Rattle.pop_journal.specs.Expected.{whole_tail_until, HoldsUntil}
 use Rattle.pop_journal.specs.Laws.{IsRunReadBackUntil}
-use Rattle.pop_lines.proofs.Unbroken.{IsUnbroken}
+use Rattle.base_lines.proofs.Unbroken.{IsUnbroken}
 use Rattle.pop_journal.proofs.Feeds.{lines_text}
 use Rattle.pop_journal.proofs.Written.{written_is_held_until}
 use Rattle.tool_texts.specs.declared.output.Output.{Output}

@@ -6,7 +6,7 @@ pub mod Source
 pub mod Written
 pub mod OneAnswer
 pub mod Runs
-pub mod StableHeadline
+pub mod Told
 pub mod Headline
 pub mod ReplayHeld
 pub mod CompileCertified

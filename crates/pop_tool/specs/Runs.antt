@@ -9,8 +9,8 @@ use Rattle.run_spec.specs.declared.spec.RunSpec.{RunSpec}
 use Rattle.run_spec.specs.declared.spec.TheConstants.{MEETING_LIMIT}
 use Rattle.run_spec.specs.RunLimits.{IsWithinLimits}
 use Rattle.run_spec.specs.Kinds.{most_workers_of}
-use Rattle.journal_text.specs.declared.last.Last.{Last}
-use Rattle.journal_text.specs.declared.last.Last.TheVariants.{Undecided as UndecidedBy}
+use Rattle.run_text.specs.declared.last.Last.{Last}
+use Rattle.run_text.specs.declared.last.Last.TheVariants.{Undecided as UndecidedBy}
 
 -- the last line of a journal that ends in this crowd: the line that is told of a terminal one, if no move of this net
 -- is possible in it, and else the least pair of agents that such a move changes

@@ -26,8 +26,8 @@ pub fn compiled_is_certified()
     ensures { IsCompiledCertified }
 {}
 
-/// Of a bundle without goals `show` says what `check` says, and behind `certified` it adds the lines of the bundle. A
-/// theorem; the body is empty.
+/// `show` says what `check` says, and behind the lines of a valid proof it adds those of the bundle. A theorem; the body
+/// is empty.
 pub fn shown_is_checked()
     ensures { IsShownAsChecked }
 {}

@@ -1,5 +1,5 @@
 //! The top call: the words and the bytes that a source has left go in, a text goes to a sink, and a status comes back.
-//! It stands on the crates of commands, and on `tool_makers`, which makes what was prepared.
+//! It stands on the crates of commands, and on `tool_runs`, which makes what was prepared.
 //! The layer above uses: what the sink gains and the status are those of an answer of `specs/Answer.antt`.
 #![tactic(auto)]
 

@@ -9,7 +9,7 @@ use std::sync::Wait;
 use std::thread::Threads;
 use tool_courses::Prepared;
 use tool_demos::make_demo;
-use tool_makers::{make_alone, make_on_threads};
+use tool_runs::{make_alone, make_on_threads};
 use tool_texts::Output;
 
 /// Makes what needs no threads. It waits for nobody.

@@ -1,7 +1,7 @@
 //! From words and input to a text, or to a run that is still to be made.
 
 ghost use Rattle.std.specs.Prelude.{◌≡◌, ◌<◌, ◌≤◌, ◌^◌, length, false, IfOk};
-ghost use Rattle.pop_lines.specs.Lines.{lines_of};
+ghost use Rattle.base_lines.specs.Lines.{lines_of};
 ghost use Rattle.pop_words.specs.declared.words.TheConstants.{WORD_LIMIT};
 ghost use Rattle.pop_words.specs.CommandLine.{texts_of};
 ghost use Rattle.pop_words.specs.Words.{HasLimits};

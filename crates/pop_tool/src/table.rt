@@ -1,7 +1,7 @@
 //! The table of commands.
 
 ghost use Rattle.std.specs.Prelude.{◌≡◌, ◌↔◌, ◌<◌, ◌^◌, length, IfOk, IsTrue};
-ghost use Rattle.pop_lines.specs.Lines.{lines_of};
+ghost use Rattle.base_lines.specs.Lines.{lines_of};
 ghost use Rattle.pop_words.specs.Words.{HasLimits};
 ghost use Rattle.tool_courses.specs.Prepared.{Prepares, NeedsNoThreads};
 ghost use Rattle.pop_tool.specs.Commands.{CommandGives, IsPlain, reads, ready};

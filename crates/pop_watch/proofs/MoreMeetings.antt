@@ -10,11 +10,11 @@ use Rattle.pop_net.specs.declared.net.Word.{Word}
 use Rattle.pop_crowd.specs.declared.crowd.Meeting.{Meeting}
 use Rattle.pop_crowd.specs.Replay.{replay, changes, AreMarked}
 use Rattle.pop_crowd.proofs.InARow.{replay_append}
-use Rattle.pair_runs.specs.Picks.{picks_from, words_from}
-use Rattle.pair_runs.specs.Turns.{HasPicked}
-use Rattle.pair_runs.specs.Run.{meetings_of, pairs, made_by}
-use Rattle.pair_runs.proofs.Played.{marked_append}
-use Rattle.pair_runs.proofs.Turns.{picked_more}
+use Rattle.run_picks.specs.Picks.{picks_from, words_from}
+use Rattle.run_picks.specs.Turns.{HasPicked}
+use Rattle.run_picks.specs.Run.{meetings_of, pairs, made_by}
+use Rattle.run_picks.proofs.Played.{marked_append}
+use Rattle.run_picks.proofs.Turns.{picked_more}
 use Rattle.pair_workers.specs.declared.round_end.RoundEnd.{RoundEnd}
 use Rattle.pop_watch.specs.Playing.{ArePlaying, IsPlayedFrom, KeepsPlaying, HasMore}
 

@@ -12,8 +12,8 @@ use Rattle.agent_field.specs.declared.field.FieldSeat.{FieldSeat}
 use Rattle.agent_field.specs.declared.view.Logged.{Logged}
 use Rattle.agent_field.specs.History.{IsHistory, calls}
 use Rattle.agent_field.specs.Seats.{log_of, taken_of}
-use Rattle.pair_runs.specs.Turns.{HasPicked}
-use Rattle.pair_runs.specs.Run.{meetings_of, pairs, made_by}
+use Rattle.run_picks.specs.Turns.{HasPicked}
+use Rattle.run_picks.specs.Run.{meetings_of, pairs, made_by}
 use Rattle.pair_workers.specs.Work.{AreDone, HasAll, agents_of_field, pairs_of}
 use Rattle.pair_workers.proofs.FieldRounds.{pairs_called}
 use Rattle.pair_workers.specs.declared.work.Worker.{Worker}

@@ -11,7 +11,7 @@ use Rattle.pop_crowd.specs.declared.crowd.Meeting.{Meeting}
 use Rattle.pop_crowd.specs.Replay.{replay, AreMarked}
 use Rattle.agent_field.specs.declared.view.Logged.{Logged}
 use Rattle.agent_field.specs.History.{calls_from, logged, listed_if}
-use Rattle.pair_runs.specs.Run.{meetings_of, pairs}
+use Rattle.run_picks.specs.Run.{meetings_of, pairs}
 use Rattle.pop_watch.specs.Playing.{of_worker}
 
 abbrev pub IsOfWorker : Meeting → Type 0

@@ -10,15 +10,15 @@ use Rattle.pop_crowd.specs.declared.crowd.Meeting.{Meeting}
 use Rattle.run_spec.specs.declared.kind.RunKind.{RunKind}
 use Rattle.run_spec.specs.declared.kind.RunKind.TheVariants.{Whole, Watched}
 use Rattle.run_spec.specs.declared.spec.RunSpec.{RunSpec}
-use Rattle.pair_runs.specs.declared.alone.End.{End}
+use Rattle.run_picks.specs.declared.alone.End.{End}
 use Rattle.pair_workers.specs.declared.round_end.RoundEnd.{RoundEnd}
-use Rattle.pair_runs.specs.Run.{made_by}
-use Rattle.pair_runs.specs.Turns.{ArePlayed}
-use Rattle.pair_runs.specs.Ends.{RunGoesOn, IsEndOf}
-use Rattle.pair_runs.specs.SameLanes.{HaveSameLanes}
-use Rattle.pair_runs.proofs.ManyRounds.{AreOnTheRun, all_more_rounds}
-use Rattle.pair_runs.proofs.RunEnds.{goes_at, ends_at, over_by, run_ended}
-use Rattle.pair_runs.specs.TakenRun.{Step as Taking, TakesAll}
+use Rattle.run_picks.specs.Run.{made_by}
+use Rattle.run_picks.specs.Turns.{ArePlayed}
+use Rattle.run_picks.specs.Ends.{RunGoesOn, IsEndOf}
+use Rattle.run_picks.specs.SameLanes.{HaveSameLanes}
+use Rattle.run_picks.proofs.ManyRounds.{AreOnTheRun, all_more_rounds}
+use Rattle.run_picks.proofs.RunEnds.{goes_at, ends_at, over_by, run_ended}
+use Rattle.run_picks.specs.TakenRun.{Step as Taking, TakesAll}
 use Rattle.pop_watch.specs.Playing.{AreAllMade}
 use Rattle.pop_watch.specs.RunsOfKind.{IsRoundOf, IsRunOfKindUntil}
 use Rattle.pop_watch.proofs.WatchedRounds.{IsOnTheWay, one_round_more, run_over, ends_by}

@@ -8,17 +8,17 @@ use Rattle.pop_leaf.specs.Step.{Step}
 use Rattle.pop_leaf.specs.Terminal.{IsTerminal}
 use Rattle.pop_crowd.specs.declared.crowd.Meeting.{Meeting}
 use Rattle.run_spec.specs.declared.spec.RunSpec.{RunSpec}
-use Rattle.pair_runs.specs.Picks.{picks, first_state}
-use Rattle.pair_runs.specs.Run.{IsRound, joined, pairs, meetings_of, made_by}
-use Rattle.pair_runs.specs.Turns.{HasPicked, ArePlayed}
-use Rattle.pair_runs.proofs.Rounds.{get_pushed}
-use Rattle.pair_runs.proofs.Turns.{picked_on}
-use Rattle.pair_runs.proofs.ManyRounds.{AreOnTheRun, all_more_rounds, all_run_over, next_turns, as_many, all_of, all_marked, all_replayed, all_go_on}
-use Rattle.pair_runs.specs.WatchedRun.{IsWatchedRound, IsWatchedRunUntil, AreSpent}
-use Rattle.pair_runs.proofs.WholeWatched.{watched_round, whole_is_watched}
-use Rattle.pair_runs.specs.declared.alone.End.{End}
-use Rattle.pair_runs.specs.declared.alone.End.TheVariants.{Terminal, Open}
-use Rattle.pair_runs.specs.Ends.{IsEndOf}
+use Rattle.run_picks.specs.Picks.{picks, first_state}
+use Rattle.run_picks.specs.Run.{IsRound, joined, pairs, meetings_of, made_by}
+use Rattle.run_picks.specs.Turns.{HasPicked, ArePlayed}
+use Rattle.run_picks.proofs.Rounds.{get_pushed}
+use Rattle.run_picks.proofs.Turns.{picked_on}
+use Rattle.run_picks.proofs.ManyRounds.{AreOnTheRun, all_more_rounds, all_run_over, next_turns, as_many, all_of, all_marked, all_replayed, all_go_on}
+use Rattle.run_picks.specs.WatchedRun.{IsWatchedRound, IsWatchedRunUntil, AreSpent}
+use Rattle.run_picks.proofs.WholeWatched.{watched_round, whole_is_watched}
+use Rattle.run_picks.specs.declared.alone.End.{End}
+use Rattle.run_picks.specs.declared.alone.End.TheVariants.{Terminal, Open}
+use Rattle.run_picks.specs.Ends.{IsEndOf}
 use Rattle.pop_watch.specs.Playing.{ArePlaying, AreAllMade}
 use Rattle.pop_watch.specs.WatchedEnds.{WatchedEndsBy}
 

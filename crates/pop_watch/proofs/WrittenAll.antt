@@ -1,10 +1,10 @@
 -- The lines that were added are those of the rounds that were taken.
 use Rattle.std.proofs.Common.{◌≡◌, ℕ, ◌+◌, List, [], ◌∷◌, ◌++◌, ap, sym, ◌∙◌, append-nil, append_assoc, map}
 use Rattle.std.proofs.lemmas.Grind.{flat_map-append}
-use Rattle.pop_lines.specs.Lines.{ended}
+use Rattle.base_lines.specs.Lines.{ended}
 use Rattle.pop_crowd.specs.declared.crowd.Meeting.{Meeting}
-use Rattle.pair_runs.specs.TakenRun.{TakesAll}
-use Rattle.journal_text.specs.Journal.{round_line, meeting_line, round_lines, text_of}
+use Rattle.run_picks.specs.TakenRun.{TakesAll}
+use Rattle.run_text.specs.Journal.{round_line, meeting_line, round_lines, text_of}
 use Rattle.pop_watch.specs.WrittenRound.{writes_round}
 use Rattle.pop_watch.specs.declared.sink.WrittenRounds.{WrittenRounds}
 

@@ -3,8 +3,8 @@ use Rattle.std.specs.Prelude.{List}
 use Rattle.pop_leaf.specs.NetModel.{NetModel, CrowdModel}
 use Rattle.pop_crowd.specs.declared.crowd.Meeting.{Meeting}
 use Rattle.run_spec.specs.declared.spec.RunSpec.{RunSpec}
-use Rattle.pair_runs.specs.Run.{IsRunUntil}
-use Rattle.pair_runs.specs.WatchedRun.{IsWatchedRunUntil}
+use Rattle.run_picks.specs.Run.{IsRunUntil}
+use Rattle.run_picks.specs.WatchedRun.{IsWatchedRunUntil}
 
 abbrev pub WholeRunsAreWatched : Type 0
 WholeRunsAreWatched =

@@ -8,8 +8,8 @@ use Rattle.pop_net.specs.Lanes.{crowd_of, AreValid}
 use Rattle.pop_net.specs.declared.net.Word.{Word}
 use Rattle.pop_crowd.specs.declared.crowd.Meeting.{Meeting}
 use Rattle.pop_crowd.specs.Replay.{replay, AreMarked}
-use Rattle.pair_runs.specs.Turns.{HasPicked}
-use Rattle.pair_runs.specs.Run.{meetings_of, made_by, pairs}
+use Rattle.run_picks.specs.Turns.{HasPicked}
+use Rattle.run_picks.specs.Run.{meetings_of, made_by, pairs}
 use Rattle.pair_workers.specs.declared.round_end.RoundEnd.{RoundEnd}
 
 -- a meeting of a seat as one of its worker: worker w has the seat w + 1

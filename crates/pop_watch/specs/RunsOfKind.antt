@@ -6,11 +6,11 @@ use Rattle.pop_crowd.specs.declared.crowd.Meeting.{Meeting}
 use Rattle.run_spec.specs.declared.kind.RunKind.{RunKind}
 use Rattle.run_spec.specs.declared.kind.RunKind.TheVariants.{Whole, Watched}
 use Rattle.run_spec.specs.declared.spec.RunSpec.{RunSpec}
-use Rattle.pair_runs.specs.declared.alone.End.{End}
-use Rattle.pair_runs.specs.declared.alone.RunEnd.{RunEnd}
+use Rattle.run_picks.specs.declared.alone.End.{End}
+use Rattle.run_picks.specs.declared.alone.RunEnd.{RunEnd}
 use Rattle.pair_workers.specs.declared.round_end.RoundEnd.{RoundEnd}
-use Rattle.pair_runs.specs.Ends.{IsRunFromUntil}
-use Rattle.pair_runs.specs.TakenRun.{Step, TakesAll}
+use Rattle.run_picks.specs.Ends.{IsRunFromUntil}
+use Rattle.run_picks.specs.TakenRun.{Step, TakesAll}
 use Rattle.pair_workers.specs.WholeRounds.{IsWholeRound}
 use Rattle.pop_watch.specs.Playing.{IsWatchedRoundFrom}
 use Rattle.pop_watch.specs.WatchedEnds.{IsWatchedRunFromUntil}

@@ -8,10 +8,10 @@ use Rattle.pop_net.specs.declared.net.Word.{Word}
 use Rattle.pop_crowd.specs.declared.crowd.Meeting.{Meeting}
 use Rattle.terminal_test.specs.Pairs.{IsLeastPair}
 use Rattle.run_spec.specs.declared.spec.RunSpec.{RunSpec}
-use Rattle.pair_runs.specs.declared.alone.End.{End}
-use Rattle.pair_runs.specs.declared.alone.RunEnd.{RunEnd}
-use Rattle.pair_runs.specs.declared.alone.End.TheVariants.{Terminal, Open}
-use Rattle.pair_runs.specs.WatchedRun.{IsWatchedRunUntil, AreSpent}
+use Rattle.run_picks.specs.declared.alone.End.{End}
+use Rattle.run_picks.specs.declared.alone.RunEnd.{RunEnd}
+use Rattle.run_picks.specs.declared.alone.End.TheVariants.{Terminal, Open}
+use Rattle.run_picks.specs.WatchedRun.{IsWatchedRunUntil, AreSpent}
 
 -- why a run ended in this crowd after these rounds: the crowd is terminal; or the turns are spent and this pair of
 -- agents is the least that can change
@@ -27,7 +27,3 @@ pub record IsWatchedRunFromUntil (rest net : NetModel) (crowd : List Word) (spec
   pub ends : WatchedEndsBy rest (crowd_of net ran.crowd) spec ran.rounds ran.end
   pub valid : AreValid net ran.crowd
   pub agents : length ran.crowd ≡ length crowd
-
--- such a run up to a terminal crowd
-abbrev pub IsWatchedRunFrom : NetModel → List Word → RunSpec → RunEnd → Type 0
-IsWatchedRunFrom net crowd spec ran = IsWatchedRunFromUntil net net crowd spec ran

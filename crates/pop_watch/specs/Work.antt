@@ -4,10 +4,10 @@ use Rattle.pop_leaf.specs.NetModel.{NetModel}
 use Rattle.agent_field.specs.declared.field.Field.{Field}
 use Rattle.agent_field.specs.declared.field.FieldSeat.{FieldSeat}
 use Rattle.agent_field.specs.Seats.{IsSeatOf, net_of, seat_number, spare_looks_of}
-use Rattle.pair_runs.specs.CrowdSize.{IsCrowdSize}
-use Rattle.pair_runs.specs.SameLanes.{HaveSameLanes}
+use Rattle.run_picks.specs.CrowdSize.{IsCrowdSize}
+use Rattle.run_picks.specs.SameLanes.{HaveSameLanes}
 use Rattle.pair_workers.specs.Work.{agents_of_field}
-use Rattle.pair_runs.specs.declared.alone.TheConstants.{ROUND_TURNS}
+use Rattle.run_picks.specs.declared.alone.TheConstants.{ROUND_TURNS}
 use Rattle.pop_watch.specs.declared.limits.TheConstants.{LOOKS_A_ROUND}
 
 -- the field belongs to the net, words stand for the same crowds in the net of the table of pairs, and the observer has

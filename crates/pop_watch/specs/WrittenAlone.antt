@@ -5,9 +5,9 @@ use Rattle.pop_net.specs.declared.net.Word.{Word}
 use Rattle.pop_crowd.specs.declared.crowd.Meeting.{Meeting}
 use Rattle.run_spec.specs.declared.kind.RunKind.TheVariants.{Whole}
 use Rattle.run_spec.specs.declared.spec.RunSpec.{RunSpec}
-use Rattle.pair_runs.specs.declared.alone.End.{End}
-use Rattle.pair_runs.specs.OneRun.{IsOnlyRunFromUntil}
-use Rattle.journal_text.specs.Journal.{run_lines, text_of}
+use Rattle.run_picks.specs.declared.alone.End.{End}
+use Rattle.run_picks.specs.OneRun.{IsOnlyRunFromUntil}
+use Rattle.run_text.specs.Journal.{run_lines, text_of}
 
 -- a run from a crowd to this end until it is terminal in rest, which is the only one, and its lines after earlier text
 pub record IsWrittenRunUntil (rest net : NetModel) (crowd : List Word) (spec : RunSpec) (before after : List ℕ)

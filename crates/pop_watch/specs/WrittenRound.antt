@@ -1,7 +1,7 @@
 -- A round that is written.
 use Rattle.std.specs.Prelude.{◌≡◌, ℕ, List, ◌∷◌, ◌++◌, map}
 use Rattle.pop_crowd.specs.declared.crowd.Meeting.{Meeting}
-use Rattle.journal_text.specs.Journal.{round_line, meeting_line, text_of}
+use Rattle.run_text.specs.Journal.{round_line, meeting_line, text_of}
 use Rattle.pop_watch.specs.declared.sink.WrittenRounds.{WrittenRounds}
 
 -- the round's lines are added

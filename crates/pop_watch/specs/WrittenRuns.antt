@@ -5,8 +5,8 @@ use Rattle.pop_net.specs.declared.net.Word.{Word}
 use Rattle.pop_crowd.specs.declared.crowd.Meeting.{Meeting}
 use Rattle.run_spec.specs.declared.kind.RunKind.{RunKind}
 use Rattle.run_spec.specs.declared.spec.RunSpec.{RunSpec}
-use Rattle.pair_runs.specs.declared.alone.End.{End}
-use Rattle.journal_text.specs.Journal.{run_lines, text_of}
+use Rattle.run_picks.specs.declared.alone.End.{End}
+use Rattle.run_text.specs.Journal.{run_lines, text_of}
 pub use Rattle.pop_watch.specs.RunsOfKind.{IsRoundOf, IsRunOfKind, IsRunOfKindUntil}
 
 -- a run of this kind from a crowd to this end until it is terminal in rest, and its lines after earlier text

@@ -1,7 +1,7 @@
 //! What the rounds of a run on threads have in common.
 
 ghost use Rattle.terminal_test.specs.TableNet.{table_net};
-ghost use Rattle.pair_runs.specs.SameLanes.{HaveSameLanes};
+ghost use Rattle.run_picks.specs.SameLanes.{HaveSameLanes};
 
 use pair_workers::RunContext;
 use terminal_test::PairTable;

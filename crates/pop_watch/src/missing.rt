@@ -2,7 +2,7 @@
 
 ghost use Rattle.std.specs.Prelude.{◌≡◌, ℕ, ◌+◌, ◌<◌, ◌≤◌, length, OnOk, slice_index_or, vec_capacity};
 ghost use Rattle.pop_net.specs.Lanes.{AreValid};
-ghost use Rattle.pair_runs.specs.Run.{made_by};
+ghost use Rattle.run_picks.specs.Run.{made_by};
 ghost use Rattle.pop_watch.specs.Playing.{HasPlayedOn, KeepsPlaying, AreAllMade};
 
 use pair_workers::{ROUND_TURNS, RoundEnd, meet_next};

@@ -4,7 +4,7 @@ ghost use Rattle.std.specs.Prelude.{◌≡◌, ◌+◌, ◌≤◌, length, IfOk}
 ghost use Rattle.pop_net.specs.Lanes.{AreValid};
 ghost use Rattle.agent_field.specs.Seats.{IsSeatOf, KeepsLogs, seat_number, opening_of, spare_looks_of, net_of};
 ghost use Rattle.terminal_test.specs.TableNet.{table_net};
-ghost use Rattle.pair_runs.specs.CrowdSize.{IsCrowdSize};
+ghost use Rattle.run_picks.specs.CrowdSize.{IsCrowdSize};
 ghost use Rattle.pop_watch.specs.Work.{CanObserve};
 
 use crate::context::WatchContext;

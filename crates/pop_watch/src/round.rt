@@ -4,10 +4,10 @@ ghost use Rattle.std.specs.Prelude.{◌≡◌, true, ℕ, ◌<◌, ◌≤◌, le
 ghost use Rattle.agent_field.specs.Layouts.{Serves};
 ghost use Rattle.agent_field.specs.Seats.{IsSeatOf, KeepsLogs};
 ghost use Rattle.terminal_test.specs.TableNet.{table_net};
-ghost use Rattle.pair_runs.specs.CrowdSize.{IsCrowdSize};
+ghost use Rattle.run_picks.specs.CrowdSize.{IsCrowdSize};
 ghost use Rattle.pair_workers.specs.WholeRounds.{CanMakeRound};
 ghost use Rattle.pair_workers.specs.Work.{agents_of_field, MayWork, HaveWorked};
-ghost use Rattle.pair_runs.specs.Run.{made_by};
+ghost use Rattle.run_picks.specs.Run.{made_by};
 ghost use Rattle.pop_watch.specs.Work.{CanObserve};
 ghost use Rattle.pop_watch.specs.Playing.{IsPartOfRound, IsWatchedRoundFrom, of_worker};
 

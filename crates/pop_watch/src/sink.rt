@@ -1,10 +1,10 @@
 //! The text of a run that is being made, so that no round's meetings are kept.
 
-use journal_text::{Page, push_round, push_run_line};
 use pair_workers::RoundSink;
 use pop_crowd::Meeting;
 use pop_io::NoMemory;
 use run_spec::{RunKind, RunSpec};
+use run_text::{Page, push_round, push_run_line};
 use std::alloc::Global;
 
 /// A text to which the lines of each round are added.
@@ -16,9 +16,9 @@ pub struct WrittenRounds {
 
 impl WrittenRounds {
     ghost use Rattle.std.specs.Prelude.{◌≡◌, ◌++◌, codes, IfOk};
-    ghost use Rattle.pop_lines.specs.Lines.{ended};
+    ghost use Rattle.base_lines.specs.Lines.{ended};
     ghost use Rattle.run_spec.specs.RunLimits.{IsWithinLimits};
-    ghost use Rattle.journal_text.specs.Journal.{run_line};
+    ghost use Rattle.run_text.specs.Journal.{run_line};
 
     /// A text and the first line of a run by so many agents.
     pub fn begin(

@@ -15,8 +15,10 @@ use std::alloc::Global;
 use std::sync::Wait;
 use std::thread::Threads;
 
-/// Makes a run of this kind on threads, as `run_all` and `run_watched`, and adds its lines up to `end` to a text. The
-/// run is over once no move of its net `rest` is possible. Returns the text, the run's last crowd, and why it ended.
+/// Makes a run of this kind on threads, and adds its lines up to `end` to a text. An observer that has seen a terminal
+/// crowd stops the workers of a watched run before their round is whole. It calls `pass` of the gate before each of its
+/// looks in a round and once after them, with the number after the last worker's, and counts the looks from 1. The run
+/// is over once no move of its net `rest` is possible. Returns the text, the run's last crowd, and why it ended.
 pub fn push_run<R: Threads + Wait + Sync, G: Gate>(
     rt: &R,
     alloc: Global,

@@ -1,6 +1,6 @@
 -- A word cut off a line.
 use Rattle.std.proofs.Common.{◌≡◌, ℕ, ◌+◌, ◌<◌, List, ◌∷◌, length, Option, Some, None, ap, arith, length-append}
-use Rattle.pop_lines.specs.Lines.{pieces, IsCut}
+use Rattle.base_lines.specs.Lines.{pieces, IsCut}
 use Rattle.pop_words.specs.WordsBehind.{words_behind, bytes_left}
 
 -- cutting off a word and the space after it leaves fewer bytes

@@ -3,7 +3,7 @@ use Rattle.std.proofs.Common.{◌≡◌, ℕ, ◌≤◌, ◌&&◌, Bool, true, f
 use Rattle.std.specs.Prelude.{◌%◌, ◌==◌, ◌+◌, ◌*◌, nat_lt, IfOk, IfSome, length, option_and_then, option_map, position, unwrap_or, slice_index_or, if◌then◌else◌, find, ◌∷◌, []}
 use Rattle.std.specs.Str.{bytes_eq}
 use Rattle.std.proofs.lemmas.Bool.{and_parts, leb-true, ltb-false}
-use Rattle.pop_lines.specs.Numbers.{number_of, number_of_within}
+use Rattle.base_lines.specs.Numbers.{number_of, number_of_within}
 use Rattle.run_spec.specs.Kinds.{most_workers_of}
 use Rattle.run_spec.specs.declared.kind.RunKind.{RunKind}
 use Rattle.run_spec.specs.declared.kind.RunKind.TheVariants.{Whole, Watched}

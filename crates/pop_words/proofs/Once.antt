@@ -3,7 +3,7 @@ use Rattle.std.proofs.Common.{◌≡◌, ℕ, ◌+◌, ◌<◌, ◌⊎◌, inl, 
 use Rattle.std.specs.List.{onto_first}
 use Rattle.std.proofs.lemmas.Bool.{eq-eqb}
 use Rattle.std.proofs.lemmas.List.Splits.{slice_split-cons_yes, slice_split-cons_no, length-slice_split}
-use Rattle.pop_lines.specs.Lines.{pieces, IsCut}
+use Rattle.base_lines.specs.Lines.{pieces, IsCut}
 use Rattle.pop_words.specs.Counts.{split_once, with_word, with_words}
 use Rattle.pop_words.specs.WordsBehind.{words_behind, without_count}
 use Rattle.std.specs.Prelude.{is_none, slice_set, map, if◌then◌else◌}

@@ -4,8 +4,8 @@ use Rattle.std.specs.Prelude.{option_and_then, option_map, unwrap_or, is_some, p
 use Rattle.std.specs.List.{slice_index_or, slice_set}
 use Rattle.std.specs.Str.{bytes_eq}
 use Rattle.pop_io.specs.Gives.{Gives}
-use Rattle.pop_lines.specs.Lines.{pieces}
-use Rattle.pop_lines.specs.Numbers.{small_number_of}
+use Rattle.base_lines.specs.Lines.{pieces}
+use Rattle.base_lines.specs.Numbers.{small_number_of}
 use Rattle.pop_io.specs.declared.failure.Failure.{Failure}
 use Rattle.pop_io.specs.Failures.{fault_of}
 use Rattle.pop_words.specs.declared.counts.BadWord.{BadWord}

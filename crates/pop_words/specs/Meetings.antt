@@ -1,8 +1,8 @@
 -- Meeting lines.
 use Rattle.std.specs.Prelude.{ℕ, ◌==◌, ◌&&◌, not, nat_lt, List, [], ◌∷◌, Option, Some, None, option_map}
 use Rattle.std.specs.Prelude.{option_and_then, Result, Ok, Err, if◌then◌else◌}
-use Rattle.pop_lines.specs.Lines.{pieces}
-use Rattle.pop_lines.specs.Numbers.{number_of}
+use Rattle.base_lines.specs.Lines.{pieces}
+use Rattle.base_lines.specs.Numbers.{number_of}
 use Rattle.pop_words.specs.declared.meeting.MeetingFault.{MeetingFault}
 use Rattle.pop_words.specs.declared.meeting.MeetingFault.TheVariants.{Form, Agents}
 

@@ -4,7 +4,7 @@ use Rattle.std.specs.Prelude.{Some, None, is_some, option_map, option_and_then, 
 use Rattle.std.specs.Prelude.{slice_index_or, if◌then◌else◌, Result, Ok, Err}
 use Rattle.std.specs.List.{list_any, range_with_len}
 use Rattle.std.specs.Str.{bytes_eq}
-use Rattle.pop_lines.specs.Numbers.{number_of_within}
+use Rattle.base_lines.specs.Numbers.{number_of_within}
 use Rattle.pop_words.specs.declared.options.RunOption.{RunOption}
 use Rattle.pop_words.specs.declared.options.RunOption.TheVariants.{Workers, Shards, Turns, Seed}
 use Rattle.pop_io.specs.declared.gate.TheConstants.{SHARD_LIMIT}

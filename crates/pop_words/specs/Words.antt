@@ -12,7 +12,7 @@ use Rattle.pop_words.specs.declared.words.Form.{Form}
 use Rattle.pop_words.specs.declared.words.Flags.{Flags}
 use Rattle.pop_words.specs.declared.words.Flags.TheVariants.{OfCompile, OfReplay}
 use Rattle.pop_words.specs.declared.words.Form.TheVariants.{Alone, WithOptions, WithNumber, WithFlag}
-use Rattle.pop_lines.specs.Numbers.{number_of_within}
+use Rattle.base_lines.specs.Numbers.{number_of_within}
 use Rattle.run_spec.specs.declared.spec.TheConstants.{WATCHED_WORKERS}
 use Rattle.pop_words.specs.declared.command.TheConstants.{DEMO_LIMIT}
 use Rattle.run_spec.specs.declared.kind.RunKind.{RunKind}

@@ -7,8 +7,8 @@ ghost use Rattle.pop_words.specs.Vars.{AreVariables};
 ghost use Rattle.pop_words.specs.Counts.{with_word, with_words, counts_of, Counted};
 ghost use Rattle.pop_words.specs.WordsBehind.{words_behind, without_count};
 
+use base_lines::{cut, small_number};
 use pop_io::{Failure, List, Text, VARIABLE_LIMIT, place_of};
-use pop_lines::{cut, small_number};
 use std::alloc::{AllocError, Global};
 
 /// The first word of a crowd line that breaks its form, counted from 0.

@@ -1,5 +1,5 @@
 //! The words of the command line, the vars line, the crowd line and the meeting line.
-//! It stands on `pop_io`, `pop_lines` and `run_spec`.
+//! It stands on `pop_io`, `base_lines` and `run_spec`.
 //! The layer above uses: `read_words` is `meaning_of`, and the readers of lines `meeting_of`, `vars_of`, `counts_of`.
 #![tactic(auto)]
 

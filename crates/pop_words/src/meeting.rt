@@ -1,10 +1,10 @@
 //! The meeting line.
 
 ghost use Rattle.std.specs.Prelude.{◌≡◌, ◌≢◌, ◌<◌, IfOk};
-ghost use Rattle.pop_lines.specs.Lines.{pieces};
+ghost use Rattle.base_lines.specs.Lines.{pieces};
 ghost use Rattle.pop_words.specs.Meetings.{meeting_of, pair_of};
 
-use pop_lines::{cut, number};
+use base_lines::{cut, number};
 
 /// Why a line isn't a meeting of two agents.
 #[derive(Clone, Copy, PartialEq, Eq)]

@@ -13,8 +13,8 @@ ghost use Rattle.run_spec.specs.RunLimits.{IsWithinLimits};
 ghost use Rattle.pop_words.specs.Options.{word_fault, name_fault, number_fault, first_fault};
 
 use crate::command::{Usage, UsageWhy};
+use base_lines::number_within;
 use pop_io::SHARD_LIMIT;
-use pop_lines::number_within;
 use run_spec::{MEETING_LIMIT, RunKind, RunSpec, SEED_LIMIT, TURN_LIMIT};
 
 /// An option of a run.

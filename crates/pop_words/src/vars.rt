@@ -7,8 +7,8 @@ ghost use Rattle.pop_io.specs.Names.{variable_name};
 ghost use Rattle.pop_words.specs.Vars.{vars_of, Named, AreVariables};
 ghost use Rattle.pop_words.specs.WordsBehind.{words_behind, can_join, NamedBehind};
 
+use base_lines::cut;
 use pop_io::{Failure, List, Text, VARIABLE_LIMIT, is_among, is_variable_name};
-use pop_lines::cut;
 use std::alloc::Global;
 
 /// A line that isn't `vars` and 1 to `VARIABLE_LIMIT` distinct names, one space before each.

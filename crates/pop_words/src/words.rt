@@ -10,7 +10,7 @@ ghost use Rattle.pop_words.specs.Words.{flagged_command, flag_meaning, HasLimits
 
 use crate::command::{Command, DEMO_LIMIT, Usage, UsageWhy};
 use crate::options::read_options;
-use pop_lines::number_within;
+use base_lines::number_within;
 use run_spec::{RunKind, RunSpec};
 
 /// The most words: the number of a bad one has 32 bits.

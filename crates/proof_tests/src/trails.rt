@@ -76,16 +76,16 @@ fn trail(alloc: Global) -> Option<Trail>
 }
 
 /// Whether facts times their multipliers refute those of a trail, by residues or, with the modulus 0, by their sum.
-fn closes_on(trail: &Trail, modulus: u32, terms: &List<Term>) -> Option<bool>
-    requires ordered { All IsOrdered trail.now }
-    requires count { length trail.now ≡ COUNT }
+fn closes_on(trail: &mut Trail, modulus: u32, terms: &List<Term>) -> Option<bool>
+    requires ordered { All IsOrdered trail.old }
+    requires count { length trail.old ≡ COUNT }
     requires named { AreNamed COUNT terms.now }
     requires multipliers { AreMultipliers terms.now }
 {
     if modulus == 0 {
-        trail.linear(terms).ok()
+        trail.is_refuted_by_sum(terms).ok()
     } else {
-        trail.residue(modulus, terms).ok()
+        trail.is_refuted_by_residue(modulus, terms).ok()
     }
 }
 
@@ -94,8 +94,8 @@ fn closes(alloc: Global, modulus: u32, terms: &[Term]) -> Option<bool>
     requires multipliers { AreMultipliers terms.now }
 {
     let terms = list(alloc, terms)?;
-    let trail = trail(alloc)?;
-    closes_on(&trail, modulus, &terms)
+    let mut trail = trail(alloc)?;
+    closes_on(&mut trail, modulus, &terms)
 }
 
 /// The constant of the last fact, which is an equation, and how many facts are left after a cut.

@@ -3,8 +3,9 @@
 ghost use Rattle.std.specs.Prelude.{length, IfSome};
 ghost use Rattle.cert_base.specs.ProofLimits.{IsProofWithin};
 
+use base_json::FormatFault;
 use cert_base::Proof;
-use cert_json::{FormatFault, read_proof, write_proof};
+use cert_json::{read_proof, write_proof};
 use net_json::read_net;
 use pop_net::Net;
 use serde_json::Value;

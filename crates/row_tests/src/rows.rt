@@ -2,8 +2,8 @@
 
 use crate::row::{Row, number_of, text_of};
 use anyhow::{Context, Result};
+use base_lines::next_line;
 use pop_io::{List, MemorySink, MemorySource, OpenGate, Trouble, TroubleKind};
-use pop_lines::next_line;
 use pop_tool::run_tool;
 use serde_json::Value;
 use std::alloc::{AllocError, Global};
@@ -167,13 +167,13 @@ fn is_valid_bundle<R: Threads + Wait + Sync>(
     has_leaves(alloc, text, leaves)
 }
 
-/// Whether a text says that a proof is valid, with its bound.
+/// Whether a text says that a proof is valid, with its bound, and that its layers are tame.
 fn is_certificate(text: &[u8]) -> bool {
     let Some(number) = text.strip_prefix(b"certified ".as_slice()) else {
         return false;
     };
-    match number.split_last() {
-        Some((end, digits)) => *end == b'\n' && are_digits(digits),
+    match number.strip_suffix(b"\ntame\n".as_slice()) {
+        Some(digits) => are_digits(digits),
         None => false,
     }
 }

@@ -78,7 +78,6 @@ fn looks_around<R: Wait>(rt: &R, alloc: Global, field: &Field, seat: &mut FieldS
     let met = field.meet(rt, seat, 1, 0, &OpenGate);
     let last = field.look(rt, seat);
     (first, last, met.ticket, met.changed) == (0, 1, 0, true)
-        && seat.spare_looks() == 0
         && shows(seat, 0, 0, &[Word(0), Word(1)])
         && shows(seat, 1, 1, &[Word(2), Word(3)])
 }

@@ -12,8 +12,8 @@ use std::alloc::Global;
 use std::sync::Wait;
 use std::test::Fail;
 
-/// Its number, its meetings and the room for more, the seats left, whether it is whole, its looks and their room.
-fn said_of(seat: &FieldSeat) -> (u16, u64, u64, u16, bool, u16, u16) {
+/// Its number, its meetings and the room for more, the seats left, whether it is whole, and its looks.
+fn said_of(seat: &FieldSeat) -> (u16, u64, u64, u16, bool, u16) {
     (
         seat.number(),
         seat.made(),
@@ -21,7 +21,6 @@ fn said_of(seat: &FieldSeat) -> (u16, u64, u64, u16, bool, u16, u16) {
         seat.left(),
         seat.whole(),
         seat.looks(),
-        seat.spare_looks(),
     )
 }
 

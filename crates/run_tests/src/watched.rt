@@ -1,16 +1,15 @@
-//! Watched runs: one that the observer stops, and the calls that write, read and verify a journal.
+//! Watched runs: one that the observer stops, and one whose journal is read and verified.
 
-ghost use Rattle.std.specs.Prelude.{◌≡◌, ◌≤◌, length, IfSome};
-ghost use Rattle.pop_net.specs.Lanes.{AreValid};
+ghost use Rattle.std.specs.Prelude.{◌≡◌, ◌≤◌, length};
 ghost use Rattle.run_spec.specs.RunLimits.{IsWithinLimits};
 
-use pair_workers::{End, RunEnd};
+use pair_workers::{End, RunContext};
 use pop_crowd::{Crowd, Meeting};
-use pop_io::{Gate, List, OpenGate};
-use pop_journal::{read_watched, verify_watched, write_watched};
+use pop_io::{Gate, OpenGate};
+use pop_journal::{Journal, read_journal, verify};
 use pop_net::Net;
-use pop_watch::{run_watched, whole_runs_are_watched};
-use run_spec::{RunSpec, WATCHED_WORKERS};
+use pop_watch::{push_run, whole_runs_are_watched};
+use run_spec::{RunKind, RunSpec, WATCHED_WORKERS};
 use sample_nets::majority;
 use std::alloc::Global;
 use std::sync::Wait;
@@ -67,39 +66,51 @@ impl Gate for AtTurn100 {
     fn held(&self, _seat: u16, _call: u64) {}
 }
 
-/// How many meetings a worker has made.
-fn made_by(meetings: &[Meeting], worker: u16) -> usize {
-    meetings.iter().filter(|m| m.worker == worker).count()
-}
-
-/// Whether a run is terminal after one round, in which each of the two workers has made 99 meetings.
-fn is_stopped(run: &RunEnd) -> bool {
-    let rounds = run.rounds.as_slice();
-    if rounds.len() != 1 || run.end != End::Terminal {
-        return false;
-    }
-    let met = rounds[0].as_slice();
-    (made_by(met, 0), made_by(met, 1), met.len()) == (99, 99, 198)
-}
-
-/// A watched run of two agents.
+/// The lines of a watched run of two agents, and why it ended.
 fn watched<R: Threads + Wait + Sync, G: Gate>(
     rt: &R,
     alloc: Global,
     net: &Net,
     spec: &RunSpec,
     gate: &G,
-) -> Option<RunEnd>
+) -> Option<(Vec<u8>, End)>
     requires net { length net.now.variables ≡ 2 }
     requires spec { IsWithinLimits spec.now × (spec.now.workers ≤ WATCHED_WORKERS) }
-    ensures { IfSome result (λ run. AreValid net.now run.crowd) }
 {
     let crowd = Crowd::of_counts(alloc, net, &[1, 1]).ok()?;
-    run_watched(rt, alloc, net, crowd, spec, gate).ok()
+    let run = RunContext {
+        net,
+        rest: net,
+        spec,
+        gate,
+    };
+    let text = Vec::new(alloc);
+    let (text, _, end) = push_run(rt, alloc, text, RunKind::Watched, &run, crowd).ok()?;
+    Some((text, end))
+}
+
+/// How many meetings a worker has made.
+fn made_by(meetings: &[Meeting], worker: u16) -> usize {
+    meetings.iter().filter(|m| m.worker == worker).count()
+}
+
+/// Whether a run has one round, in which each of the two workers has made 99 meetings.
+fn is_stopped(journal: &Journal) -> bool {
+    let rounds = journal.rounds.as_slice();
+    if rounds.len() != 1 {
+        return false;
+    }
+    let met = rounds[0].as_slice();
+    (made_by(met, 0), made_by(met, 1), met.len()) == (99, 99, 198)
 }
 
 /// Whether a run by two workers is stopped before its round is whole.
-fn stops<R: Threads + Wait + Sync, G: Gate>(rt: &R, alloc: Global, net: &Net, gate: &G) -> bool
+fn stops<R: Threads + Wait + Sync, G: Gate>(
+    rt: &R,
+    alloc: Global,
+    net: &Net,
+    gate: &G,
+) -> Option<bool>
     requires { length net.now.variables ≡ 2 }
 {
     let spec = RunSpec {
@@ -108,18 +119,19 @@ fn stops<R: Threads + Wait + Sync, G: Gate>(rt: &R, alloc: Global, net: &Net, ga
         turns: 200,
         seed: 0,
     };
-    match watched(rt, alloc, net, &spec, gate) {
-        Some(run) => is_stopped(&run),
-        None => false,
-    }
+    let (text, end) = watched(rt, alloc, net, &spec, gate)?;
+    let journal = read_journal(alloc, RunKind::Watched, text.as_slice(), 1, 2).ok()?;
+    Some(is_stopped(&journal) && end == End::Terminal)
 }
 
 /// The same for majority.
-fn majority_stops<R: Threads + Wait + Sync, G: Gate>(rt: &R, alloc: Global, gate: &G) -> bool {
-    match majority(alloc) {
-        Some(net) => stops(rt, alloc, &net, gate),
-        None => false,
-    }
+fn majority_stops<R: Threads + Wait + Sync, G: Gate>(
+    rt: &R,
+    alloc: Global,
+    gate: &G,
+) -> Option<bool> {
+    let net = majority(alloc)?;
+    stops(rt, alloc, &net, gate)
 }
 
 #[test]
@@ -132,11 +144,26 @@ fn the_observer_stops_a_round(rt: HostRuntime) {
     };
     whole_runs_are_watched();
     let stopped = majority_stops(&rt, rt.alloc(), &gate);
-    assert!(rt; stopped && gate.gave_up.load(Ordering::SeqCst) == 0);
+    assert!(rt; stopped == Some(true) && gate.gave_up.load(Ordering::SeqCst) == 0);
 }
 
-/// The journal of a watched run of two agents by one worker.
-fn written<R: Threads + Wait + Sync>(rt: &R, alloc: Global, net: &Net) -> Option<List<u8>>
+/// How many meetings the journal of a watched run of two agents has, if it holds.
+fn verified(alloc: Global, net: &Net, text: &[u8]) -> Option<u64>
+    requires { length net.now.variables ≡ 2 }
+{
+    let crowd = Crowd::of_counts(alloc, net, &[1, 1]).ok()?;
+    let journal = read_journal(alloc, RunKind::Watched, text, 1, crowd.len()).ok()?;
+    verify(alloc, net, crowd, &journal).ok()
+}
+
+/// The lines of a run up to its end.
+const LINES: &str = "watch workers 1 shards 16 turns 1 seed 0\nround 1\n0 1 0 *\nend\n";
+
+const TEXT: &str =
+    "watch workers 1 shards 16 turns 1 seed 0\nround 1\n0 1 0 *\nend\na 1\nb 1\nundecided 0 1\n";
+
+/// Whether a run by one worker has these lines, and its journal one meeting.
+fn writes_and_verifies<R: Threads + Wait + Sync>(rt: &R, alloc: Global, net: &Net) -> Option<bool>
     requires { length net.now.variables ≡ 2 }
 {
     let spec = RunSpec {
@@ -145,43 +172,18 @@ fn written<R: Threads + Wait + Sync>(rt: &R, alloc: Global, net: &Net) -> Option
         turns: 1,
         seed: 0,
     };
-    let run = watched(rt, alloc, net, &spec, &OpenGate)?;
-    write_watched(alloc, net, &spec, &run, false).ok()
-}
-
-/// How many meetings the journal of a watched run of two agents has, if it holds.
-fn verified(alloc: Global, net: &Net, text: &[u8]) -> Option<u64>
-    requires { length net.now.variables ≡ 2 }
-{
-    let crowd = Crowd::of_counts(alloc, net, &[1, 1]).ok()?;
-    let journal = read_watched(alloc, text, 1, crowd.len()).ok()?;
-    verify_watched(alloc, net, crowd, &journal).ok()
-}
-
-const TEXT: &str =
-    "watch workers 1 shards 16 turns 1 seed 0\nround 1\n0 1 0 *\nend\na 1\nb 1\nundecided 0 1\n";
-
-/// Whether the journal that is written has this text, and one meeting.
-fn writes_and_verifies<R: Threads + Wait + Sync>(rt: &R, alloc: Global, net: &Net) -> bool
-    requires { length net.now.variables ≡ 2 }
-{
-    match written(rt, alloc, net) {
-        Some(text) => {
-            text.as_slice() == TEXT.as_bytes() && verified(alloc, net, text.as_slice()) == Some(1)
-        }
-        None => false,
-    }
+    let (text, end) = watched(rt, alloc, net, &spec, &OpenGate)?;
+    let meetings = verified(alloc, net, TEXT.as_bytes())?;
+    Some(text.as_slice() == LINES.as_bytes() && end == End::Open(0, 1) && meetings == 1)
 }
 
 /// The same for majority.
-fn majority_writes<R: Threads + Wait + Sync>(rt: &R, alloc: Global) -> bool {
-    match majority(alloc) {
-        Some(net) => writes_and_verifies(rt, alloc, &net),
-        None => false,
-    }
+fn majority_writes<R: Threads + Wait + Sync>(rt: &R, alloc: Global) -> Option<bool> {
+    let net = majority(alloc)?;
+    writes_and_verifies(rt, alloc, &net)
 }
 
 #[test]
-fn a_journal_is_written_and_verified(rt: HostRuntime) {
-    assert!(rt; majority_writes(&rt, rt.alloc()));
+fn a_watched_run_is_written_and_verified(rt: HostRuntime) {
+    assert!(rt; majority_writes(&rt, rt.alloc()) == Some(true));
 }

@@ -9,7 +9,7 @@ use Rattle.pop_leaf.specs.NetModel.{Tuple}
 use Rattle.pop_leaf.specs.Reaction.{takes_states, after_move, by_move, leaf_reaction, reactions}
 use Rattle.pop_leaf.proofs.Found.{find_some}
 use Rattle.pop_leaf.proofs.Quiet.{leaf_quiet, leaves_quiet}
-use Rattle.list_laws.proofs.Lists.{heads, tails}
+use Rattle.base_laws.proofs.Lists.{heads, tails}
 
 -- a non-silent move changes the states that take it
 after_itself : (t : Move) (x y : ℕ) (b : Bool) → (x == t.p) && (y == t.q) ≡ b → same_pair x y t.p t.q ≡ true → (after_move b t).0 ≡ x → (after_move b t).1 ≡ y → silent_move t ≡ true

@@ -9,10 +9,10 @@ use Rattle.pop_words.specs.Counts.{counts_of}
 use Rattle.tool_texts.specs.declared.refusal.Refusal.{Refusal}
 use Rattle.tool_texts.specs.declared.refusal.Refusal.TheVariants.{Size}
 use Rattle.tool_texts.specs.Steps.{◌>>=◌}
-use Rattle.tool_bundles.specs.declared.bundle.AnyBundle.{AnyBundle}
+use Rattle.cert_json.specs.declared.stable.StableBundle.{StableBundle}
 use Rattle.tool_bundles.specs.Named.{counted}
 use Rattle.tool_bundles.specs.Start.{is_size, sized, fitting_in}
-use Rattle.tool_bundles.specs.StableBundles.{any_bundle_in, net_of, any_begun}
+use Rattle.tool_bundles.specs.Bundles.{bundle_in, begun}
 use Rattle.tool_texts.proofs.Goes.{bind_ok, same_ok}
 
 abbrev IsFit : NetModel → List ℕ → Type 0
@@ -31,15 +31,15 @@ fitting_fit net line counts e =
     let c = bind_ok (counted (counts_of net.variables line)) (sized net) counts e in
     sized_fit net c.0 (is_size (input_size net c.0)) counts refl c.2
 
-begun_fit : (value : Option Data) (line : List ℕ) (bundle : AnyBundle) (counts : List ℕ) → any_begun value line ≡ Ok (bundle, counts) → IsFit (net_of bundle) counts
-unfolding any_begun
+begun_fit : (value : Option Data) (line : List ℕ) (bundle : StableBundle) (counts : List ℕ) → begun value line ≡ Ok (bundle, counts) → IsFit bundle.net counts
+unfolding begun
 begun_fit value line bundle counts e =
-    let b = bind_ok (any_bundle_in value) (λ b. fitting_in (net_of b) line >>= λ c. Ok (b, c)) (bundle, counts) e in
-    let c = bind_ok (fitting_in (net_of b.0) line) (λ c. Ok (b.0, c)) (bundle, counts) b.2 in
-    subst (λ (x : AnyBundle × List ℕ). IsFit (net_of x.0) x.1) (same_ok (b.0, c.0) (bundle, counts) c.2) (fitting_fit (net_of b.0) line c.0 c.1)
+    let b = bind_ok (bundle_in value) (λ b. fitting_in b.net line >>= λ c. Ok (b, c)) (bundle, counts) e in
+    let c = bind_ok (fitting_in b.0.net line) (λ c. Ok (b.0, c)) (bundle, counts) b.2 in
+    subst (λ (x : StableBundle × List ℕ). IsFit x.0.net x.1) (same_ok (b.0, c.0) (bundle, counts) c.2) (fitting_fit b.0.net line c.0 c.1)
 
-pub begun_two : (value : Option Data) (line : List ℕ) (bundle : AnyBundle) (counts : List ℕ) → any_begun value line ≡ Ok (bundle, counts) → AGENT_LEAST ≤ input_size (net_of bundle) counts
+pub begun_two : (value : Option Data) (line : List ℕ) (bundle : StableBundle) (counts : List ℕ) → begun value line ≡ Ok (bundle, counts) → AGENT_LEAST ≤ input_size bundle.net counts
 begun_two value line bundle counts e = (begun_fit value line bundle counts e).0
 
-pub begun_few : (value : Option Data) (line : List ℕ) (bundle : AnyBundle) (counts : List ℕ) → any_begun value line ≡ Ok (bundle, counts) → input_size (net_of bundle) counts ≤ AGENT_LIMIT
+pub begun_few : (value : Option Data) (line : List ℕ) (bundle : StableBundle) (counts : List ℕ) → begun value line ≡ Ok (bundle, counts) → input_size bundle.net counts ≤ AGENT_LIMIT
 begun_few value line bundle counts e = (begun_fit value line bundle counts e).1

@@ -1,17 +1,17 @@
 -- What a line with a bundle is.
 use Rattle.std.proofs.Common.{◌≡◌, ℕ, List, Option, Some, None, Result, Ok, Err, ap}
 use Rattle.serde_json.specs.Data.{Data}
-use Rattle.json_shape.specs.Faults.{Fault}
-use Rattle.cert_json.specs.Bundles.{bundle_at}
-use Rattle.cert_json.specs.declared.bundle.Bundle.{Bundle}
+use Rattle.base_json.specs.Faults.{Fault}
+use Rattle.cert_json.specs.StableBundles.{stable_bundle_at}
+use Rattle.cert_json.specs.declared.stable.StableBundle.{StableBundle}
 use Rattle.tool_texts.specs.Json.{HasValue}
 use Rattle.tool_bundles.specs.Start.{formatted}
 use Rattle.tool_bundles.specs.Bundles.{bundle_in}
 
-formatted_ok : (r : Result Bundle Fault) (bundle : Bundle) → formatted r ≡ Ok bundle → r ≡ Ok bundle
-formatted_ok (Ok b) bundle e = let same : b ≡ bundle = cc in ap (λ (x : Bundle). Ok x) same
+formatted_ok : (r : Result StableBundle Fault) (bundle : StableBundle) → formatted r ≡ Ok bundle → r ≡ Ok bundle
+formatted_ok (Ok b) bundle e = let same : b ≡ bundle = cc in ap (λ (x : StableBundle). Ok x) same
 formatted_ok (Err fault) bundle e = absurd cc
 
-pub some_value : (line : List ℕ) (value : Option Data) (bundle : Bundle) → HasValue line value → bundle_in value ≡ Ok bundle → (d : Data) × HasValue line (Some d) × (bundle_at d ≡ Ok bundle)
+pub some_value : (line : List ℕ) (value : Option Data) (bundle : StableBundle) → HasValue line value → bundle_in value ≡ Ok bundle → (d : Data) × HasValue line (Some d) × (stable_bundle_at d ≡ Ok bundle)
 some_value line None bundle has e = absurd cc
-some_value line (Some d) bundle has e = (d, has, formatted_ok (bundle_at d) bundle e)
+some_value line (Some d) bundle has e = (d, has, formatted_ok (stable_bundle_at d) bundle e)

@@ -2,7 +2,6 @@ pub mod InputSize
 pub mod Starts
 pub mod Begun
 pub mod Certified
-pub mod AnyBundles
 pub mod OneLast
 pub mod OneBundle
 pub mod OtherEndings

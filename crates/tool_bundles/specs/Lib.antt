@@ -2,4 +2,4 @@ pub mod Named
 pub mod Start
 pub mod LastPair
 pub mod Bundles
-pub mod StableBundles
+pub mod LastOf

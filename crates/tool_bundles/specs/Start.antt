@@ -2,7 +2,7 @@
 use Rattle.std.specs.Prelude.{◌≡◌, ℕ, ◌&&◌, nat_le, List, [], length, Bool}
 use Rattle.std.specs.Prelude.{Option, Some, None, Result, Ok, Err, if◌then◌else◌}
 use Rattle.serde_json.specs.Data.{Data}
-use Rattle.json_shape.specs.Faults.{Fault}
+use Rattle.base_json.specs.Faults.{Fault}
 use Rattle.net_json.specs.Examined.{net_at}
 use Rattle.pop_leaf.specs.NetModel.{NetModel, CrowdModel, number_of_helpers}
 use Rattle.pop_leaf.specs.InputCrowd.{IsInput, input_crowd}

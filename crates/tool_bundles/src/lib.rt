@@ -4,9 +4,11 @@
 #![tactic(auto)]
 
 mod bundle;
+mod last;
 mod named;
 mod start;
 
-pub use bundle::{AnyBundle, any_bundle_of_line, begin_any, bundle_of_line};
+pub use bundle::{begin, bundle_of_line};
+pub use last::last_of;
 pub use named::{counts_in, names_of, pred_of};
 pub use start::{Start, net_and_start};

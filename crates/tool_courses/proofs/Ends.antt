@@ -2,9 +2,9 @@
 use Rattle.std.proofs.Common.{ℕ}
 use Rattle.pop_leaf.specs.NetModel.{NetModel, CrowdModel}
 use Rattle.run_spec.specs.declared.spec.RunSpec.{RunSpec}
-use Rattle.pair_runs.specs.Ends.{EndsBy}
-use Rattle.pair_runs.specs.declared.alone.End.{End}
-use Rattle.pair_runs.specs.declared.alone.End.TheVariants.{Terminal, Open}
+use Rattle.run_picks.specs.Ends.{EndsBy}
+use Rattle.run_picks.specs.declared.alone.End.{End}
+use Rattle.run_picks.specs.declared.alone.End.TheVariants.{Terminal, Open}
 use Rattle.tool_bundles.specs.LastPair.{IsLast}
 use Rattle.tool_courses.specs.RunOutput.{open_pair}
 

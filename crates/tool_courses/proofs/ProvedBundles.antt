@@ -1,63 +1,64 @@
 -- What is proved of a bundle.
-use Rattle.std.proofs.Common.{◌≡◌, ℕ, List, refl, ap, sym, subst, ◌∙◌}
+use Rattle.std.proofs.Common.{◌≡◌, ℕ, Bool, true, false, cond, List, refl, ap, sym, subst, ◌∙◌}
 use Rattle.std.specs.Prelude.{length, None}
 use Rattle.pres_ast.specs.PredicateValue.{predicate_value}
 use Rattle.pop_leaf.specs.NetModel.{NetModel}
-use Rattle.journal_text.specs.declared.last.Last.TheVariants.{Verdict, Settled}
-use Rattle.journal_text.specs.declared.last.Outcome.TheVariants.{Agreed, Known}
-use Rattle.cert_base.specs.ProofBound.{proof_bound}
-use Rattle.cert_json.specs.declared.bundle.Bundle.{Bundle}
-use Rattle.goal_json.specs.declared.bundle.StableBundle.{StableBundle}
-use Rattle.goal_rest.specs.Chosen.{proof_at}
-use Rattle.goal_rest.specs.Resting.{resting_net}
-use Rattle.goal_rest.proofs.HushedLeaves.{states_listed}
-use Rattle.pair_runs.specs.SameLanes.{HaveSameLanes}
-use Rattle.pop_checker.specs.CheckedModel.{CheckedModel}
-use Rattle.tool_bundles.specs.declared.bundle.AnyBundle.{AnyBundle}
-use Rattle.tool_bundles.specs.declared.bundle.AnyBundle.TheVariants.{Plain, Stable}
+use Rattle.cert_json.specs.declared.stable.StableBundle.{StableBundle}
+use Rattle.pop_checker.specs.Silent.{is_silent}
+use Rattle.pop_settle.specs.Chosen.{proof_at}
+use Rattle.pop_settle.specs.Resting.{resting_net}
+use Rattle.pop_settle.proofs.HushedLeaves.{states_listed, hushed_length}
+use Rattle.run_text.specs.declared.last.Last.TheVariants.{Verdict, Settled}
+use Rattle.run_text.specs.declared.last.Outcome.TheVariants.{Agreed, Known}
+use Rattle.run_picks.specs.SameLanes.{HaveSameLanes}
 use Rattle.tool_courses.specs.declared.proved.Proved.{Proved}
 use Rattle.tool_courses.specs.declared.proved.Proved.TheVariants as proved
+use Rattle.tool_rejections.specs.Judged.{IsJudged}
 use Rattle.tool_bundles.specs.Bundles.{IsBundleWithin}
-use Rattle.tool_checks.specs.Judged.{IsJudged, IsStableJudged}
 use Rattle.tool_bundles.specs.declared.start.Start.{Start}
 use Rattle.tool_bundles.specs.Start.{IsStart}
-use Rattle.tool_bundles.specs.StableBundles.{net_of, IsStableBundleWithin}
 use Rattle.tool_courses.specs.Course.{Course, course_of}
-use Rattle.tool_courses.specs.Proved.{proved_net, IsProvedOf}
+use Rattle.tool_courses.specs.Proved.{proved_net, proved_course, IsProvedOf}
 
--- a checked net, from whatever counts it starts
-pub silent_proved : (bundle : Bundle) (checked : CheckedModel) (counts : List ℕ) → IsBundleWithin bundle → IsJudged bundle None → checked ≡ record { net = bundle.net; pred = bundle.pred; bound = proof_bound bundle.proof }
-    → IsProvedOf (Plain bundle) counts (proved.Silent checked)
-silent_proved bundle checked counts within valid kept =
-    record {
-      valid = valid;
-      course = ap (λ (c : CheckedModel). let course : Course = record { net = c.net; rest = c.net; told = Verdict (predicate_value c.pred.tree counts); outcome = Agreed } in course) kept;
-      formed = record {
-        lanes = refl;
-        variables = subst (λ (c : CheckedModel). c.pred.variables ≡ length c.net.variables) (sym kept) within.variables;
-      };
-    }
+module _ (bundle : StableBundle) (counts : List ℕ) (within : IsBundleWithin bundle) (valid : IsJudged bundle None) where
+  silent_course : is_silent bundle.proof ≡ true → proved_course (proved.Silent bundle.net bundle.pred) counts ≡ course_of bundle counts
+  silent_course is = rw is refl
 
--- a net with goals
-pub stable_proved : (bundle : StableBundle) (rest : NetModel) (counts : List ℕ) → IsStableBundleWithin bundle → IsStableJudged bundle None → rest ≡ resting_net bundle.net bundle.proof counts
-    → IsProvedOf (Stable bundle) counts (proved.Stable bundle.net rest bundle.pred)
-stable_proved bundle rest counts within valid is =
-    record {
-      valid = valid;
-      course = ap (λ (r : NetModel). let course : Course = record { net = bundle.net; rest = r; told = Settled (predicate_value bundle.pred.tree counts); outcome = Known (predicate_value bundle.pred.tree counts) } in course) is;
-      formed = record {
-        lanes = subst (λ (r : NetModel). HaveSameLanes r bundle.net) (sym is) (states_listed bundle.net.leaves (proof_at counts bundle.proof).leaves);
-        variables = within.variables;
-      };
-    }
+  goal_course : is_silent bundle.proof ≡ false → proved_course (proved.Stable bundle.net (resting_net bundle.net bundle.proof counts) bundle.pred) counts ≡ course_of bundle counts
+  goal_course is = rw is refl
 
--- the net of the course is the bundle's
-pub course_net : (bundle : AnyBundle) (counts : List ℕ) → (course_of bundle counts).net ≡ net_of bundle
-course_net (Plain bundle) counts = refl
-course_net (Stable bundle) counts = refl
+  -- where each leaf falls silent
+  pub silent_proved : is_silent bundle.proof ≡ true → IsProvedOf bundle counts (proved.Silent bundle.net bundle.pred)
+  silent_proved is =
+      record {
+        valid = valid;
+        course = silent_course is;
+        formed = record { lanes = refl; variables = within.variables };
+      }
 
-pub net_proved : (bundle : AnyBundle) (counts : List ℕ) (p : Proved) → IsProvedOf bundle counts p → proved_net p ≡ net_of bundle
-net_proved bundle counts p of = ap (λ (course : Course). course.net) of.course ∙ course_net bundle counts
+  -- where some leaf has goals
+  pub stable_proved : is_silent bundle.proof ≡ false → (rest : NetModel) → rest ≡ resting_net bundle.net bundle.proof counts
+      → IsProvedOf bundle counts (proved.Stable bundle.net rest bundle.pred)
+  stable_proved goals rest is =
+      record {
+        valid = valid;
+        course = ap (λ (r : NetModel). proved_course (proved.Stable bundle.net r bundle.pred) counts) is ∙ goal_course goals;
+        formed = record {
+          lanes = subst (λ (r : NetModel). HaveSameLanes r bundle.net) (sym is) (states_listed bundle.net.leaves (proof_at counts bundle.proof).leaves);
+          variables = within.variables;
+        };
+      }
 
-pub proved_start : (bundle : AnyBundle) (counts : List ℕ) (p : Proved) (start : Start) → IsProvedOf bundle counts p → IsStart (net_of bundle) start → IsStart (proved_net p) start
+pub net_proved : (bundle : StableBundle) (counts : List ℕ) (p : Proved) → IsProvedOf bundle counts p → proved_net p ≡ bundle.net
+net_proved bundle counts p of = ap (λ (course : Course). course.net) of.course
+
+pub proved_start : (bundle : StableBundle) (counts : List ℕ) (p : Proved) (start : Start) → IsProvedOf bundle counts p → IsStart bundle.net start → IsStart (proved_net p) start
 proved_start bundle counts p start of is = subst (λ (n : NetModel). IsStart n start) (sym (net_proved bundle counts p of)) is
+
+-- the net that decides where a run ends has as many leaves
+pub same_leaves : (bundle : StableBundle) (counts : List ℕ) → length (course_of bundle counts).rest.leaves ≡ length bundle.net.leaves
+same_leaves bundle counts = by_kind (is_silent bundle.proof)
+  where
+    by_kind : (b : Bool) → length (cond b bundle.net (resting_net bundle.net bundle.proof counts)).leaves ≡ length bundle.net.leaves
+    by_kind true = refl
+    by_kind false = hushed_length bundle.net.leaves (proof_at counts bundle.proof).leaves

@@ -11,8 +11,8 @@ use Rattle.pop_crowd.specs.declared.crowd.Meeting.{Meeting}
 use Rattle.pop_crowd.proofs.Reached.{replay_leads}
 use Rattle.run_spec.specs.declared.kind.RunKind.{RunKind}
 use Rattle.run_spec.specs.declared.spec.RunSpec.{RunSpec}
-use Rattle.pair_runs.specs.Run.{joined}
-use Rattle.pair_runs.specs.WatchedRun.{IsRunOfUntil}
+use Rattle.run_picks.specs.Run.{joined}
+use Rattle.run_picks.specs.WatchedRun.{IsRunOfUntil}
 use Rattle.pop_journal.proofs.RunKinds.{are_watched, is_watched_until, run_form_until}
 
 module _ (rest net : NetModel) (counts : List ℕ) (two : 2 ≤ sum counts + number_of_helpers net) (kind : RunKind) (spec : RunSpec) (rounds : List (List Meeting)) (end : CrowdModel) (is : IsRunOfUntil kind rest net (input_crowd net counts) spec rounds end) where

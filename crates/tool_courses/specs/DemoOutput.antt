@@ -7,10 +7,10 @@ use Rattle.pop_leaf.specs.NetModel.{NetModel, CrowdModel}
 use Rattle.pop_leaf.specs.InputCrowd.{input_crowd}
 use Rattle.pop_crowd.specs.declared.crowd.Meeting.{Meeting}
 use Rattle.pop_words.specs.declared.command.TheConstants.{DEMO_LIMIT}
-use Rattle.pair_runs.specs.Run.{IsRun}
-use Rattle.journal_text.specs.Journal.{last_line, text_of}
-use Rattle.journal_text.specs.declared.last.Last.{Last}
-use Rattle.journal_text.specs.declared.last.Last.TheVariants.{Verdict}
+use Rattle.run_picks.specs.Run.{IsRun}
+use Rattle.run_text.specs.Journal.{last_line, text_of}
+use Rattle.run_text.specs.declared.last.Last.{Last}
+use Rattle.run_text.specs.declared.last.Last.TheVariants.{Verdict}
 use Rattle.pop_demo.specs.DemoCase.{names_of_demo, demo_tree, demo_pred, demo_counts, demo_spec}
 use Rattle.comp_net.specs.BuiltNet.{built_net}
 use Rattle.tool_texts.specs.declared.output.Output.{Output}

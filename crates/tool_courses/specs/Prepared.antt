@@ -5,10 +5,10 @@ use Rattle.pop_leaf.specs.InputCrowd.{IsInput, input_crowd}
 use Rattle.pop_net.specs.Lanes.{crowd_of, AreValid}
 use Rattle.pop_net.specs.declared.net.Word.{Word}
 use Rattle.pop_crowd.specs.declared.crowd.Meeting.{Meeting}
-use Rattle.pair_runs.specs.WatchedRun.{IsRunOfUntil}
-use Rattle.pair_runs.specs.declared.alone.End.{End}
-use Rattle.pair_runs.specs.declared.alone.RunEnd.{RunEnd}
-use Rattle.journal_text.specs.Journal.{run_lines, text_of}
+use Rattle.run_picks.specs.WatchedRun.{IsRunOfUntil}
+use Rattle.run_picks.specs.declared.alone.End.{End}
+use Rattle.run_picks.specs.declared.alone.RunEnd.{RunEnd}
+use Rattle.run_text.specs.Journal.{run_lines, text_of}
 use Rattle.run_spec.specs.declared.kind.RunKind.{RunKind}
 use Rattle.run_spec.specs.declared.kind.RunKind.TheVariants.{Whole}
 use Rattle.run_spec.specs.declared.spec.RunSpec.{RunSpec}

@@ -5,12 +5,12 @@ use Rattle.pop_leaf.specs.InputCrowd.{IsInput, input_crowd}
 use Rattle.pop_crowd.specs.declared.crowd.Meeting.{Meeting}
 use Rattle.run_spec.specs.declared.kind.RunKind.{RunKind}
 use Rattle.run_spec.specs.declared.spec.RunSpec.{RunSpec}
-use Rattle.pair_runs.specs.WatchedRun.{IsRunOfUntil}
-use Rattle.pair_runs.specs.declared.alone.End.{End}
-use Rattle.pair_runs.specs.declared.alone.End.TheVariants.{Terminal, Open}
-use Rattle.journal_text.specs.Journal.{journal_text}
-use Rattle.journal_text.specs.declared.last.Last.{Last}
-use Rattle.journal_text.specs.declared.last.Last.TheVariants as last
+use Rattle.run_picks.specs.WatchedRun.{IsRunOfUntil}
+use Rattle.run_picks.specs.declared.alone.End.{End}
+use Rattle.run_picks.specs.declared.alone.End.TheVariants.{Terminal, Open}
+use Rattle.run_text.specs.Journal.{journal_text}
+use Rattle.run_text.specs.declared.last.Last.{Last}
+use Rattle.run_text.specs.declared.last.Last.TheVariants as last
 use Rattle.tool_texts.specs.declared.output.Ending.{Ending}
 use Rattle.tool_texts.specs.declared.output.Ending.TheVariants.{Done, Undecided}
 use Rattle.tool_texts.specs.declared.output.Output.{Output}

@@ -1,5 +1,5 @@
 //! What the commands of runs share: what a bundle's proof gives to a run, and what such a command prepares.
-//! It stands on `tool_checks`, and on `goal_rest`, which says where the runs of a net with goals end.
+//! It stands on `tool_rejections`, and on `pop_settle`, which says where the runs of a net with goals end.
 //! The layer above uses: what `prove` gives has the course that `specs` defines, and then the bundle's proof is valid.
 #![tactic(auto)]
 

@@ -3,8 +3,8 @@
 ghost use Rattle.std.specs.Prelude.{◌≡◌};
 ghost use Rattle.tool_courses.specs.RunOutput.{journal_end, run_ending, open_pair};
 
-use journal_text::Last;
-use pair_runs::End;
+use run_picks::End;
+use run_text::Last;
 use tool_texts::Ending;
 
 /// The journal's last line for the end of a run, given that of a run that leaves no pair, and how the command ends.

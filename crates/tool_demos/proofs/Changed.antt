@@ -7,7 +7,7 @@ use Rattle.pop_leaf.specs.NetModel.{NetModel, CrowdModel}
 use Rattle.pop_crowd.specs.declared.crowd.Meeting.{Meeting}
 use Rattle.run_spec.specs.RunLimits.{IsWithinLimits}
 use Rattle.run_spec.specs.declared.spec.RunSpec.{RunSpec}
-use Rattle.pair_runs.specs.Run.{joined, IsRun}
+use Rattle.run_picks.specs.Run.{joined, IsRun}
 use Rattle.run_spec.specs.declared.kind.RunKind.TheVariants.{Whole}
 use Rattle.pop_journal.proofs.RunKinds.{run_form}
 use Rattle.pop_journal.proofs.Written.{few_meetings}

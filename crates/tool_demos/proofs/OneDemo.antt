@@ -3,10 +3,10 @@ use Rattle.std.proofs.Common.{◌≡◌, ℕ, List, Option, Result, Ok, refl, sy
 use Rattle.pop_leaf.specs.NetModel.{CrowdModel}
 use Rattle.pop_crowd.specs.declared.crowd.Meeting.{Meeting}
 use Rattle.run_spec.specs.declared.kind.RunKind.TheVariants.{Whole}
-use Rattle.pair_runs.proofs.OnlyRun.{only_run}
+use Rattle.run_picks.proofs.OnlyRun.{only_run}
 use Rattle.pres_ast.specs.PredicateValue.{predicate_value}
-use Rattle.journal_text.specs.Journal.{text_of}
-use Rattle.journal_text.specs.declared.last.Last.TheVariants.{Verdict}
+use Rattle.run_text.specs.Journal.{text_of}
+use Rattle.run_text.specs.declared.last.Last.TheVariants.{Verdict}
 use Rattle.pop_demo.specs.DemoCase.{demo_tree, demo_counts, demo_spec}
 use Rattle.tool_texts.specs.declared.refusal.Refusal.{Refusal}
 use Rattle.tool_texts.specs.declared.output.Output.{Output}

@@ -4,8 +4,8 @@ use Rattle.pres_ast.specs.PredModel.{PredModel}
 use Rattle.pop_leaf.specs.NetModel.{NetModel, number_of_helpers}
 use Rattle.pop_leaf.specs.InputCrowd.{IsInput, input_crowd}
 use Rattle.pop_net.specs.Lanes.{crowd_of}
-use Rattle.pair_runs.specs.Run.{IsRun, joined}
-use Rattle.pair_runs.specs.declared.alone.RunEnd.{RunEnd}
+use Rattle.run_picks.specs.Run.{IsRun, joined}
+use Rattle.run_picks.specs.declared.alone.RunEnd.{RunEnd}
 use Rattle.pop_demo.specs.DemoCase.{names_of_demo, demo_spec}
 use Rattle.cert_base.specs.declared.proof.Proof.{Proof}
 use Rattle.cert_base.specs.ProofLimits.{IsProofWithin}

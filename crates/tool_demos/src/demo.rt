@@ -1,10 +1,10 @@
 //! The command `demo`.
 
 ghost use Rattle.std.specs.Prelude.{◌≡◌, ◌++◌, ◌<◌, ◌≤◌, ◌^◌, count_by, decimal, length, None, IfOk, OnOk};
-ghost use Rattle.pop_lines.specs.Lines.{ended};
+ghost use Rattle.base_lines.specs.Lines.{ended};
 ghost use Rattle.pop_words.specs.declared.command.TheConstants.{DEMO_LIMIT};
-ghost use Rattle.pair_runs.specs.Run.{joined};
-ghost use Rattle.journal_text.specs.Journal.{text_of};
+ghost use Rattle.run_picks.specs.Run.{joined};
+ghost use Rattle.run_text.specs.Journal.{text_of};
 ghost use Rattle.pop_demo.specs.DemoCase.{names_of_demo};
 ghost use Rattle.comp_net.specs.BuiltNet.{built_net};
 ghost use Rattle.comp_net.specs.CompileFaults.{fault_with};
@@ -14,18 +14,18 @@ ghost use Rattle.tool_bundles.specs.Start.{IsStart};
 ghost use Rattle.tool_courses.specs.DemoOutput.{changed, demo_start, summary_lines, IsCase, IsDemoOutput, CanDemo};
 ghost use Rattle.tool_demos.specs.Demo.{DemoGives, IsBuiltNet, IsRunOfCase};
 
+use base_lines::push_number;
 use cert_base::Proof;
 use comp_net::compile;
-use journal_text::{Last, push_last_line};
-use pair_runs::{RunEnd, run_alone};
 use pop_checker::{Checked, check};
 use pop_crowd::{Crowd, CrowdFault, Meeting};
 use pop_demo::{demo_case, demo_names, demo_run};
 use pop_io::{Failure, Gate, List, NoMemory};
-use pop_lines::push_number;
 use pop_net::Net;
 use pres_ast::Pred;
 use pres_read::print_pred;
+use run_picks::{RunEnd, run_alone};
+use run_text::{Last, push_last_line};
 use std::alloc::{AllocError, Global};
 use tool_courses::{Case, PendingDemo, Prepared, last_and_ending};
 use tool_texts::Output;

@@ -4,7 +4,7 @@ use Rattle.std.specs.Prelude.{◌≢◌, ◌==◌, All}
 use Rattle.std.proofs.lemmas.Bool.{ltb-true, and_parts, eqb-false, not-true}
 use Rattle.std.proofs.lemmas.List.Elements.{All-nil, All-cons}
 use Rattle.serde_json.specs.Data.{Data}
-use Rattle.pop_lines.specs.Lines.{pieces}
+use Rattle.base_lines.specs.Lines.{pieces}
 use Rattle.pop_leaf.specs.NetModel.{NetModel, CrowdModel, IsTuple}
 use Rattle.pop_leaf.specs.InputCrowd.{input_crowd}
 use Rattle.pop_net.proofs.Tuples.{reachable_tuples, input_tuples}

@@ -1,7 +1,7 @@
 -- What `compile`, with one of its words or none, makes of the lines of their input: a vars line and a predicate.
 use Rattle.std.specs.Prelude.{◌≡◌, ℕ, List, Option, Some, None, Result, Ok, Err}
 use Rattle.std.specs.Option.{option_map}
-use Rattle.pop_lines.specs.Lines.{ended}
+use Rattle.base_lines.specs.Lines.{ended}
 use Rattle.pres_ast.specs.PredTree.{PredTree}
 use Rattle.pres_ast.specs.PredModel.{PredModel}
 use Rattle.pres_read.specs.Reading.{pred_read}
@@ -11,9 +11,10 @@ use Rattle.serde_json.specs.Written.{compact_text}
 use Rattle.cert_base.specs.ProofBound.{proof_bound}
 use Rattle.cert_base.specs.ValidProof.{ValidProof}
 use Rattle.cert_json.specs.declared.bundle.Bundle.{Bundle}
-use Rattle.bundle_text.specs.Bundle.{bundle_data}
-use Rattle.bundle_text.specs.ReadBack.{IsWritable}
+use Rattle.cert_text.specs.Bundle.{bundle_data}
+use Rattle.cert_text.specs.ReadBack.{IsWritable}
 use Rattle.pop_checker.specs.Sound.{IsRight}
+use Rattle.theory_tame.specs.Laws.{AreTameEach}
 use Rattle.comp_net.specs.declared.choice.LeafChoice.{LeafChoice}
 use Rattle.comp_net.specs.declared.fault.CompileFault.{CompileFault}
 use Rattle.comp_net.specs.declared.fault.CompileFault.TheVariants.{ManyAtoms, NoRange, TooWide, ManyStates}
@@ -54,7 +55,8 @@ abbrev pub fits_its_leaves : LeafChoice → PredTree → Result (Unit {0}) Refus
 fits_its_leaves choice tree = unless_refused (option_map refusal_of (fault_with choice tree))
 
 -- A bundle of the predicate's built net over these names, the predicate, and a valid proof with the bound that the
--- atoms give. It can be written, no leaf has two moves that take the same states, and the net computes the predicate.
+-- atoms give. It can be written, no leaf has two moves that take the same states, the net computes the predicate, and
+-- the layers of its leaves are tame.
 pub record IsCompiled (choice : LeafChoice) (names : List (List ℕ)) (pred : PredModel) (bundle : Bundle) : Type 0 where
   pub net_is : bundle.net ≡ net_with choice names pred.tree
   pub pred_is : bundle.pred ≡ pred
@@ -63,6 +65,7 @@ pub record IsCompiled (choice : LeafChoice) (names : List (List ℕ)) (pred : Pr
   pub writable : IsWritable bundle
   pub single : IsSingle bundle.net
   pub right : IsRight bundle.net bundle.pred bundle.proof
+  pub tame : AreTameEach bundle.net bundle.proof
 
 abbrev pub bundle_line : Bundle → List ℕ
 bundle_line bundle = ended (compact_text (bundle_data bundle))

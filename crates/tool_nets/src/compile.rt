@@ -1,19 +1,16 @@
 //! The commands `compile`, `compile --flocks` and `compile --succinct`.
 
 ghost use Rattle.std.specs.Prelude.{◌≡◌, length, Ok, IfOk};
-ghost use Rattle.pop_lines.specs.Lines.{lines_of};
+ghost use Rattle.base_lines.specs.Lines.{lines_of};
 ghost use Rattle.pop_words.specs.Vars.{AreVariables};
-ghost use Rattle.comp_net.specs.Compiles.{Compiles};
 ghost use Rattle.tool_texts.specs.Steps.{GivesStep, Obeys};
 ghost use Rattle.tool_nets.specs.Compile.{asked_by, fits_its_leaves, refusal_of, compiled_output};
 ghost use Rattle.tool_nets.specs.Compile.{IsCompiled, OfAsked, CompileGives};
 
-use bundle_text::write_bundle;
-use cert_base::Proof;
 use cert_json::Bundle;
-use comp_net::{CompileFault, LeafChoice};
+use cert_text::write_bundle;
+use comp_net::{CompileFault, LeafChoice, compile_with};
 use pop_io::{Failure, List, Text};
-use pop_net::Net;
 use pres_ast::Pred;
 use std::alloc::Global;
 use tool_bundles::{names_of, pred_of};
@@ -30,24 +27,6 @@ fn asked(alloc: Global, input: &[u8]) -> Result<(List<Text>, Pred), Stop>
     let names = names_of(alloc, vars)?;
     let pred = pred_of(alloc, pred, &names)?;
     Ok((names, pred))
-}
-
-/// The built net with these leaves, and its proof.
-fn build_with(
-    alloc: Global,
-    choice: LeafChoice,
-    pred: &Pred,
-    names: &List<Text>,
-) -> Result<(Net, Proof), Failure<CompileFault>>
-    requires formed { AreVariables names.now }
-    requires count { pred.now.variables ≡ length names.now }
-    ensures { Compiles choice names.now pred.now result }
-{
-    match choice {
-        LeafChoice::Plain => comp_net::compile(alloc, pred, names),
-        LeafChoice::Flocks => comp_net::compile_flocks(alloc, pred, names),
-        LeafChoice::Succinct => comp_net::compile_succinct(alloc, pred, names),
-    }
 }
 
 /// How a predicate without a built net is refused.
@@ -76,7 +55,7 @@ fn built_bundle(
     ensures compiled { IfOk result (IsCompiled choice names.now pred) }
 {
     let _limits = pred.vars();
-    match build_with(alloc, choice, &pred, names) {
+    match compile_with(alloc, choice, &pred, names) {
         Ok((net, proof)) => Ok(Bundle { net, pred, proof }),
         Err(Failure::Fault(fault)) => Err(Failure::Fault(refusal_of(fault))),
         Err(Failure::NoMemory) => Err(Failure::NoMemory),

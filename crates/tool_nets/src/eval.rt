@@ -1,7 +1,7 @@
 //! The command `eval`.
 
 ghost use Rattle.std.specs.Prelude.{◌≡◌, IfOk};
-ghost use Rattle.pop_lines.specs.Lines.{lines_of};
+ghost use Rattle.base_lines.specs.Lines.{lines_of};
 ghost use Rattle.pop_words.specs.Vars.{AreVariables};
 ghost use Rattle.tool_texts.specs.Steps.{GivesStep};
 ghost use Rattle.tool_nets.specs.Eval.{truth_line, truth_in, eval_output};

@@ -2,7 +2,7 @@
 
 ghost use Rattle.std.specs.Prelude.{◌≡◌, ◌≢◌, ◌+◌, ◌<◌, ◌≤◌, ◌^◌, ◌++◌, ℕ, Option, length, IfOk, OnOk, option_map};
 ghost use Rattle.serde_json.specs.View.{view};
-ghost use Rattle.pop_lines.specs.Lines.{lines_of};
+ghost use Rattle.base_lines.specs.Lines.{lines_of};
 ghost use Rattle.pop_words.specs.Meetings.{meeting_of};
 ghost use Rattle.pop_net.specs.Lanes.{crowd_of, AreValid};
 ghost use Rattle.tool_texts.specs.Steps.{After, GivesStep, Obeys};
@@ -10,10 +10,10 @@ ghost use Rattle.tool_bundles.specs.LastPair.{IsLast};
 ghost use Rattle.tool_nets.specs.Play.{paired, on_from, played, end_crowd};
 ghost use Rattle.tool_nets.specs.Play.{end_line, play_output, OfEnd, PlayGives};
 
+use base_lines::{next_line, push_number};
 use pop_crowd::Crowd;
 use pop_io::{Failure, NoMemory};
 use pop_journal::short_pair;
-use pop_lines::{next_line, push_number};
 use pop_net::Net;
 use pop_words::{MeetingFault, read_meeting};
 use serde_json::Value;

@@ -1,6 +1,5 @@
-pub mod Settled
+pub mod Told
 pub mod Shown
-pub mod PlainLine
 pub mod Endings
 pub mod OneCheck
 pub mod OneShow

@@ -2,17 +2,15 @@
 
 ghost use Rattle.std.specs.Prelude.{◌≡◌, Some, IfOk};
 ghost use Rattle.tool_rejections.specs.Rejections.{layer_words, tree_words, set_words, goal_words};
-ghost use Rattle.tool_rejections.specs.Rejections.{rejected_text, rejection_output};
-ghost use Rattle.tool_rejections.specs.Rejections.{stable_rejected_text, stable_rejection_output};
+ghost use Rattle.tool_rejections.specs.Rejections.{silent_text, rejected_text, rejection_output};
 
 use cert_goals::{GoalWhy, SetFault};
 use cert_layers::LayerWhy;
-use goal_checker::StableRejected;
-use pop_checker::Rejected;
+use cert_tree::{TreeFault, TreeWhy};
+use pop_checker::{Rejected, StableRejected};
 use std::alloc::{AllocError, Global};
 use std::fmt;
 use tool_texts::{Ending, Output};
-use tree_faults::{TreeFault, TreeWhy};
 
 /// What is wrong with the layers of a leaf.
 #[derive(Clone, Copy)]
@@ -30,13 +28,13 @@ struct SetWords(SetFault);
 #[derive(Clone, Copy)]
 struct GoalWords(GoalWhy);
 
+/// What is wrong with a leaf that falls silent, or with the predicate.
+#[derive(Clone, Copy)]
+struct SilentRejection(Rejected);
+
 /// The line without its line feed.
 #[derive(Clone, Copy)]
-struct Rejection(Rejected);
-
-/// The same for a proof with goals.
-#[derive(Clone, Copy)]
-struct StableRejection(StableRejected);
+struct Rejection(StableRejected);
 
 impl fmt::Display for LayerWords {
     ghost output = { λ words. Some (layer_words words.0) };
@@ -68,8 +66,8 @@ impl fmt::Display for TreeWords {
     }
 }
 
-impl fmt::Display for Rejection {
-    ghost output = { λ words. Some (rejected_text words.0) };
+impl fmt::Display for SilentRejection {
+    ghost output = { λ words. Some (silent_text words.0) };
 
     fn fmt<W: fmt::Write>(&self, f: &mut fmt::Formatter<W>) -> fmt::Result {
         match self.0 {
@@ -125,12 +123,12 @@ impl fmt::Display for GoalWords {
     }
 }
 
-impl fmt::Display for StableRejection {
-    ghost output = { λ words. Some (stable_rejected_text words.0) };
+impl fmt::Display for Rejection {
+    ghost output = { λ words. Some (rejected_text words.0) };
 
     fn fmt<W: fmt::Write>(&self, f: &mut fmt::Formatter<W>) -> fmt::Result {
         match self.0 {
-            StableRejected::Plain(rejected) => Rejection(rejected).fmt(f),
+            StableRejected::Plain(rejected) => SilentRejection(rejected).fmt(f),
             StableRejected::Goal { leaf, value, why } => {
                 let why = GoalWords(why);
                 write!(f, "rejected leaf {leaf} {value} {why}")
@@ -139,21 +137,8 @@ impl fmt::Display for StableRejection {
     }
 }
 
-/// What is written for a proof with goals that is not valid: the line that names the first part that fails.
-pub fn stable_rejection_output(
-    alloc: Global,
-    rejected: StableRejected,
-) -> Result<Output, AllocError>
-    ensures { IfOk result (λ output. output ≡ stable_rejection_output rejected) }
-{
-    let line = StableRejection(rejected);
-    let text = format!(in alloc; "{line}\n")?;
-    let ending = Ending::Rejected;
-    Ok(Output::new(text.into_bytes(), ending))
-}
-
 /// What is written for a proof that is not valid: the line that names the first part that fails.
-pub fn rejection_output(alloc: Global, rejected: Rejected) -> Result<Output, AllocError>
+pub fn rejection_output(alloc: Global, rejected: StableRejected) -> Result<Output, AllocError>
     ensures { IfOk result (λ output. output ≡ rejection_output rejected) }
 {
     let rejected = Rejection(rejected);

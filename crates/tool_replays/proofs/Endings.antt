@@ -3,16 +3,16 @@ use Rattle.std.proofs.Common.{ℕ, List, Option, Some, None, Result, Ok, sym, su
 use Rattle.std.specs.Prelude.{◌+◌, length}
 use Rattle.run_spec.specs.declared.kind.RunKind.{RunKind}
 use Rattle.pop_leaf.specs.InputCrowd.{input_crowd}
-use Rattle.pair_runs.specs.Run.{joined}
+use Rattle.run_picks.specs.Run.{joined}
 use Rattle.pop_journal.specs.Form.{journal_in}
-use Rattle.journal_text.specs.Difference.{Difference}
+use Rattle.run_text.specs.Difference.{Difference}
 use Rattle.pop_journal.specs.Expected.{first_difference, journal_compared_until}
-use Rattle.goal_checker.specs.declared.fault.StableRejected.{StableRejected}
+use Rattle.pop_checker.specs.declared.stable_fault.StableRejected.{StableRejected}
 use Rattle.tool_texts.specs.declared.refusal.Refusal.{Refusal}
 use Rattle.tool_texts.specs.declared.output.Output.{Output}
 use Rattle.tool_texts.specs.Lines.{two_and_some}
 use Rattle.tool_texts.proofs.Goes.{bind_keeps, after_keeps}
-use Rattle.tool_bundles.specs.declared.bundle.AnyBundle.{AnyBundle}
+use Rattle.cert_json.specs.declared.stable.StableBundle.{StableBundle}
 use Rattle.tool_bundles.proofs.OtherEndings.{IsOther, refused}
 use Rattle.tool_courses.specs.Course.{course_of}
 use Rattle.tool_replays.specs.declared.replay.TheConstants.{JOURNAL_LINE}
@@ -22,7 +22,7 @@ compared_other : (meetings : ℕ) (found : Option Difference) → IsOther (Ok (c
 compared_other meetings None e = absurd cc
 compared_other meetings (Some difference) e = absurd cc
 
-judged_other : (kind : RunKind) (bundle : AnyBundle) (counts : List ℕ) (lines : List (List ℕ)) (judged : Option StableRejected) → IsOther (judged_output kind bundle counts lines judged)
+judged_other : (kind : RunKind) (bundle : StableBundle) (counts : List ℕ) (lines : List (List ℕ)) (judged : Option StableRejected) → IsOther (judged_output kind bundle counts lines judged)
 judged_other kind bundle counts lines None =
     let course = course_of bundle counts in
     let start = input_crowd course.net counts in

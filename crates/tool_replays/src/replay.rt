@@ -1,7 +1,7 @@
 //! The command `replay`, with the flag `--watched` or without.
 
 ghost use Rattle.std.specs.Prelude.{◌≡◌, length, Ok, IfOk};
-ghost use Rattle.pop_lines.specs.Lines.{lines_of};
+ghost use Rattle.base_lines.specs.Lines.{lines_of};
 ghost use Rattle.pop_net.specs.Lanes.{crowd_of, AreValid};
 ghost use Rattle.run_spec.specs.RunLimits.{IsWithinLimits};
 ghost use Rattle.pop_journal.specs.Rounds.{AreRoundsOf};
@@ -9,20 +9,21 @@ ghost use Rattle.pop_journal.specs.Form.{journal_in};
 ghost use Rattle.pop_journal.specs.Calls.{CanVerify, IsVerifiedUntil};
 ghost use Rattle.tool_texts.specs.Steps.{GivesStep, Obeys};
 ghost use Rattle.tool_bundles.specs.Start.{IsStart};
-ghost use Rattle.tool_bundles.specs.StableBundles.{IsAnyBundleWithin, net_of};
+ghost use Rattle.tool_bundles.specs.Bundles.{IsBundleWithin};
 ghost use Rattle.tool_courses.specs.Proved.{proved_net, proved_rest, proved_outcome, proved_course, IsProved};
 ghost use Rattle.tool_texts.specs.Differences.{difference_output};
 ghost use Rattle.tool_replays.specs.Replay.{holds_output, journal_read, journal_output, replay_output};
 ghost use Rattle.tool_replays.specs.Replay.{OfBegun, ReplayGives, journal_refusal};
 
+use cert_json::StableBundle;
 use pop_crowd::Crowd;
 use pop_io::Failure;
 use pop_journal::{Journal, JournalFault, VerifyFault, read_journal, verify, verify_settled};
 use run_spec::RunKind;
 use std::alloc::Global;
-use tool_bundles::{AnyBundle, Start, begin_any};
+use tool_bundles::{Start, begin};
 use tool_courses::{Proved, prove};
-use tool_rejections::stable_rejection_output;
+use tool_rejections::rejection_output;
 use tool_texts::{Ending, Output, Refusal, Stop, two_and_some_lines};
 
 /// The number of the line in which the journal begins, after the bundle and the crowd line.
@@ -83,7 +84,7 @@ fn verified(
         (proved_net proved.now) crowd journal.now result }
 {
     match proved {
-        Proved::Silent(checked) => verify(alloc, checked.net(), crowd, journal),
+        Proved::Silent { net, .. } => verify(alloc, net, crowd, journal),
         Proved::Stable { net, rest, pred } => {
             verify_settled(alloc, net, rest, pred.eval(counts), crowd, journal)
         }
@@ -141,19 +142,19 @@ fn replay_from(
 fn replay_begun(
     alloc: Global,
     kind: RunKind,
-    bundle: AnyBundle,
+    bundle: StableBundle,
     start: Start,
     text: &[u8],
 ) -> Result<Output, Stop>
-    requires limits { IsAnyBundleWithin bundle }
-    requires start { IsStart (net_of bundle) start }
+    requires limits { IsBundleWithin bundle }
+    requires start { IsStart bundle.net start }
     ensures { Obeys (OfBegun kind (lines_of text.now) (bundle, start.counts)) (λ output. output) result }
 {
     let Start { counts, crowd } = start;
     let counts = counts.as_slice();
     match prove(alloc, bundle, counts) {
         Ok(proved) => replay_from(alloc, kind, &proved, counts, crowd, text),
-        Err(Failure::Fault(rejected)) => Ok(stable_rejection_output(alloc, rejected)?),
+        Err(Failure::Fault(rejected)) => Ok(rejection_output(alloc, rejected)?),
         Err(Failure::NoMemory) => Err(Failure::NoMemory),
     }
 }
@@ -163,6 +164,6 @@ pub fn replay_input(alloc: Global, kind: RunKind, input: &[u8]) -> Result<Output
     ensures { Obeys (ReplayGives kind (lines_of input.now)) (λ output. output) result }
 {
     let (first, second, text) = two_and_some_lines(input)?;
-    let (bundle, start) = begin_any(alloc, (first, second))?;
+    let (bundle, start) = begin(alloc, (first, second))?;
     replay_begun(alloc, kind, bundle, start, text)
 }

@@ -2,17 +2,17 @@
 use Rattle.std.proofs.Common.{ℕ, List, Option, Some, None, Result, Ok, sym, ap, subst, ◌∙◌}
 use Rattle.run_spec.specs.declared.kind.RunKind.{RunKind}
 use Rattle.run_spec.specs.declared.spec.RunSpec.{RunSpec}
-use Rattle.goal_checker.specs.declared.fault.StableRejected.{StableRejected}
+use Rattle.pop_checker.specs.declared.stable_fault.StableRejected.{StableRejected}
 use Rattle.tool_texts.specs.declared.refusal.Refusal.{Refusal}
 use Rattle.tool_texts.specs.declared.output.Output.{Output}
 use Rattle.tool_texts.specs.Lines.{just_two}
 use Rattle.tool_texts.proofs.Goes.{after_keeps}
-use Rattle.tool_bundles.specs.declared.bundle.AnyBundle.{AnyBundle}
+use Rattle.cert_json.specs.declared.stable.StableBundle.{StableBundle}
 use Rattle.tool_bundles.proofs.OtherEndings.{IsOther, refused}
 use Rattle.tool_courses.proofs.Endings.{run_ending_other}
 use Rattle.tool_runs.specs.Run.{OfJudged, OfLines, RunGives}
 
-judged_other : (kind : RunKind) (spec : RunSpec) (lines : List ℕ) (bundle : AnyBundle) (counts : List ℕ) (judged : Option StableRejected) (output : Output) → OfJudged kind spec lines bundle counts judged output → IsOther (Ok output)
+judged_other : (kind : RunKind) (spec : RunSpec) (lines : List ℕ) (bundle : StableBundle) (counts : List ℕ) (judged : Option StableRejected) (output : Output) → OfJudged kind spec lines bundle counts judged output → IsOther (Ok output)
 judged_other kind spec lines bundle counts None output is e = run_ending_other is.pair (sym is.ending ∙ e)
 judged_other kind spec lines bundle counts (Some rejected) output is e = absurd (cc (ap (λ (o : Output). o.ending) is, e))
 

@@ -1,2 +1,4 @@
 pub mod Endings
 pub mod OneRun
+mod Ends
+mod Made

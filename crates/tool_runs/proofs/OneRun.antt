@@ -1,7 +1,7 @@
 -- A whole run by one worker has one output.
 use Rattle.std.proofs.Common.{◌≡◌, ℕ, ◌≤◌, List, ◌++◌, length, Option, Some, None, Result, Ok, refl, sym, ap, subst, ◌∙◌}
 use Rattle.std.specs.Prelude.{All}
-use Rattle.pop_lines.specs.Lines.{ended}
+use Rattle.base_lines.specs.Lines.{ended}
 use Rattle.pop_leaf.specs.NetModel.{Tuple, CrowdModel}
 use Rattle.pop_leaf.specs.InputCrowd.{input_crowd}
 use Rattle.pop_crowd.specs.declared.crowd.Meeting.{Meeting}
@@ -9,29 +9,26 @@ use Rattle.pop_crowd.specs.Crowds.{input_size}
 use Rattle.pop_crowd.specs.declared.limits.TheConstants.{AGENT_LEAST}
 use Rattle.run_spec.specs.declared.kind.RunKind.TheVariants.{Whole}
 use Rattle.run_spec.specs.declared.spec.RunSpec.{RunSpec}
-use Rattle.pair_runs.proofs.OnlyRun.{only_run}
-use Rattle.journal_text.specs.Journal.{journal_text}
-use Rattle.goal_checker.specs.declared.fault.StableRejected.{StableRejected}
-use Rattle.goal_rest.specs.Chosen.{proof_at}
-use Rattle.goal_rest.proofs.HushedLeaves.{hushed_length}
+use Rattle.run_picks.proofs.OnlyRun.{only_run}
+use Rattle.run_text.specs.Journal.{journal_text}
+use Rattle.pop_checker.specs.declared.stable_fault.StableRejected.{StableRejected}
 use Rattle.tool_texts.specs.declared.refusal.Refusal.{Refusal}
 use Rattle.tool_texts.specs.declared.output.Output.{Output}
 use Rattle.tool_texts.specs.Steps.{After}
 use Rattle.tool_texts.specs.Lines.{just_two}
 use Rattle.tool_texts.proofs.Goes.{one_after}
 use Rattle.tool_texts.proofs.SameOutput.{same_output}
-use Rattle.tool_bundles.specs.declared.bundle.AnyBundle.{AnyBundle}
-use Rattle.tool_bundles.specs.declared.bundle.AnyBundle.TheVariants.{Plain, Stable}
+use Rattle.cert_json.specs.declared.stable.StableBundle.{StableBundle}
 use Rattle.tool_bundles.specs.LastPair.{IsLast}
-use Rattle.tool_bundles.specs.StableBundles.{net_of}
 use Rattle.tool_courses.specs.Course.{Course, course_of}
+use Rattle.tool_courses.proofs.ProvedBundles.{same_leaves}
 use Rattle.tool_courses.specs.RunOutput.{journal_end, run_ending, IsRunOutput}
 use Rattle.tool_runs.specs.Run.{OfJudged, OfBegun, OfLines, RunGives}
 use Rattle.tool_bundles.proofs.Begun.{begun_two}
 use Rattle.tool_courses.proofs.Ran.{run_tuples}
 use Rattle.tool_bundles.proofs.OneLast.{one_last}
-use Rattle.tool_checks.proofs.OneJudged.{one_any_judged}
-use Rattle.tool_bundles.proofs.OneBundle.{one_any_begin}
+use Rattle.tool_rejections.proofs.OneJudged.{one_judged}
+use Rattle.tool_bundles.proofs.OneBundle.{one_begin}
 
 module _ (spec : RunSpec) (alone : spec.workers ≡ 1) where
   module _ (lines : List ℕ) where
@@ -51,26 +48,24 @@ module _ (spec : RunSpec) (alone : spec.workers ≡ 1) where
         ∙ sym q.text)
         (p.ending ∙ ap run_ending pair ∙ sym q.ending)
 
-    of_judged : (bundle : AnyBundle) (counts : List ℕ) → AGENT_LEAST ≤ input_size (net_of bundle) counts → (judged : Option StableRejected) (x y : Output)
+    of_judged : (bundle : StableBundle) (counts : List ℕ) → AGENT_LEAST ≤ input_size bundle.net counts → (judged : Option StableRejected) (x y : Output)
         → OfJudged Whole spec lines bundle counts judged x → OfJudged Whole spec lines bundle counts judged y → x ≡ y
-    of_judged (Plain bundle) counts two None x y p q = one_output (course_of (Plain bundle) counts) counts refl two x y p q
-    of_judged (Stable bundle) counts two None x y p q =
-        one_output (course_of (Stable bundle) counts) counts (hushed_length bundle.net.leaves (proof_at counts bundle.proof).leaves) two x y p q
+    of_judged bundle counts two None x y p q = one_output (course_of bundle counts) counts (same_leaves bundle counts) two x y p q
     of_judged bundle counts two (Some rejected) x y p q = p ∙ sym q
 
-    of_begun : (begin : AnyBundle × List ℕ) → AGENT_LEAST ≤ input_size (net_of begin.0) begin.1 → (x y : Result Output Refusal) → OfBegun Whole spec lines begin x → OfBegun Whole spec lines begin y → x ≡ y
+    of_begun : (begin : StableBundle × List ℕ) → AGENT_LEAST ≤ input_size begin.0.net begin.1 → (x y : Result Output Refusal) → OfBegun Whole spec lines begin x → OfBegun Whole spec lines begin y → x ≡ y
     of_begun begin two x y p q =
-        let judged = one_any_judged begin.0 p.0 q.0 p.2 q.2 in
+        let judged = one_judged begin.0 p.0 q.0 p.2 q.2 in
         let same = of_judged begin.0 begin.1 two q.0 p.1 q.1 (subst (λ (o : Option StableRejected). OfJudged Whole spec lines begin.0 begin.1 o p.1) judged p.3) q.3 in
         p.4 ∙ ap (λ (o : Output). Ok o) same ∙ sym q.4
 
   of_lines : (lines : List ℕ × List ℕ) (x y : Result Output Refusal) → OfLines Whole spec lines x → OfLines Whole spec lines y → x ≡ y
   of_lines lines x y p q =
       let text = ended lines.0 ++ ended lines.1 in
-      let same = one_any_begin lines.0 lines.1 p.0 q.0 p.1 q.1 in
+      let same = one_begin lines.0 lines.1 p.0 q.0 p.1 q.1 in
       one_after q.0 (OfBegun Whole spec text)
       (λ begin is. of_begun text begin (begun_two q.1.0 lines.1 begin.0 begin.1 (sym q.1.2 ∙ is))) x y
-      (subst (λ (r : Result (AnyBundle × List ℕ) Refusal). After r (OfBegun Whole spec text) x) same p.2) q.2
+      (subst (λ (r : Result (StableBundle × List ℕ) Refusal). After r (OfBegun Whole spec text) x) same p.2) q.2
 
 pub one_run : (spec : RunSpec) → spec.workers ≡ 1 → (lines : List (List ℕ)) (x y : Result Output Refusal) → RunGives Whole spec lines x → RunGives Whole spec lines y → x ≡ y
 one_run spec alone lines x y p q = one_after (just_two lines) (OfLines Whole spec) (λ found is. of_lines spec alone found) x y p q

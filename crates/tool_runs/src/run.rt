@@ -1,22 +1,23 @@
 //! The commands `run` and `watch`.
 
 ghost use Rattle.std.specs.Prelude.{◌≡◌, ◌≤◌, ◌↔◌, ◌++◌, IfOk, IsTrue};
-ghost use Rattle.pop_lines.specs.Lines.{lines_of, ended};
+ghost use Rattle.base_lines.specs.Lines.{lines_of, ended};
 ghost use Rattle.run_spec.specs.declared.kind.RunKind.TheVariants.{Whole};
 ghost use Rattle.run_spec.specs.Kinds.{most_workers_of};
 ghost use Rattle.run_spec.specs.RunLimits.{IsWithinLimits};
 ghost use Rattle.tool_bundles.specs.Start.{IsStart};
-ghost use Rattle.tool_bundles.specs.StableBundles.{IsAnyBundleWithin, net_of};
+ghost use Rattle.tool_bundles.specs.Bundles.{IsBundleWithin};
 ghost use Rattle.tool_runs.specs.Run.{OfBegun, RunGives};
 ghost use Rattle.tool_courses.specs.Prepared.{NeedsNoThreads, Prepares, IsPending};
 
+use cert_json::StableBundle;
 use pop_crowd::Crowd;
 use pop_io::{Failure, List};
 use run_spec::{RunKind, RunSpec};
 use std::alloc::{AllocError, Global};
-use tool_bundles::{AnyBundle, Start, begin_any};
+use tool_bundles::{Start, begin};
 use tool_courses::{PendingRun, Prepared, Setting, prove};
-use tool_rejections::stable_rejection_output;
+use tool_rejections::rejection_output;
 use tool_texts::{Stop, just_two_lines};
 
 /// Whether a run has one worker. A whole run by one worker is made without threads; any other run is made on threads.
@@ -75,13 +76,13 @@ fn prepare_begun(
     kind: RunKind,
     spec: RunSpec,
     lines: (&[u8], &[u8]),
-    bundle: AnyBundle,
+    bundle: StableBundle,
     start: Start,
 ) -> Result<Prepared, Stop>
     requires spec { IsWithinLimits spec }
     requires workers { spec.workers ≤ most_workers_of kind }
-    requires limits { IsAnyBundleWithin bundle }
-    requires start { IsStart (net_of bundle) start }
+    requires limits { IsBundleWithin bundle }
+    requires start { IsStart bundle.net start }
     ensures leads { Prepares
         (OfBegun kind spec (ended lines.entry.0.now ++ ended lines.entry.1.now) (bundle, start.counts)) result }
     ensures plain { kind ≡ Whole → spec.workers ≡ 1 → IfOk result NeedsNoThreads }
@@ -98,9 +99,7 @@ fn prepare_begun(
             let run = pending_of(alloc, lines, setting, crowd)?;
             Ok(run)
         }
-        Err(Failure::Fault(rejected)) => Ok(Prepared::Text(stable_rejection_output(
-            alloc, rejected,
-        )?)),
+        Err(Failure::Fault(rejected)) => Ok(Prepared::Text(rejection_output(alloc, rejected)?)),
         Err(Failure::NoMemory) => Err(Failure::NoMemory),
     }
 }
@@ -118,6 +117,6 @@ pub fn prepare_run(
     ensures plain { kind ≡ Whole → spec.workers ≡ 1 → IfOk result NeedsNoThreads }
 {
     let lines = just_two_lines(input)?;
-    let (bundle, start) = begin_any(alloc, lines)?;
+    let (bundle, start) = begin(alloc, lines)?;
     prepare_begun(alloc, kind, spec, lines, bundle, start)
 }

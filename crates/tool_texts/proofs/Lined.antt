@@ -1,8 +1,8 @@
 -- How many lines there are, and what is missing or too many.
 use Rattle.std.proofs.Common.{◌≡◌, ℕ, List, [], ◌∷◌, refl, arith}
-use Rattle.pop_lines.specs.Lines.{IsTooFew, IsLineFault}
-use Rattle.pop_lines.specs.declared.fault.LineFault.{LineFault}
-use Rattle.pop_lines.specs.declared.fault.LineFault.TheVariants.{Missing, Extra}
+use Rattle.base_lines.specs.Lines.{IsTooFew, IsLineFault}
+use Rattle.base_lines.specs.declared.fault.LineFault.{LineFault}
+use Rattle.base_lines.specs.declared.fault.LineFault.TheVariants.{Missing, Extra}
 use Rattle.tool_texts.specs.Steps.{Stops}
 use Rattle.tool_texts.specs.Lines.{line_refusal, two_and_more, just_one, just_two, just_three}
 use Rattle.pop_io.specs.declared.failure.Failure.TheVariants.{Fault}

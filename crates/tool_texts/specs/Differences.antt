@@ -1,6 +1,6 @@
 -- What is written for a journal that isn't that of a run.
 use Rattle.std.specs.Prelude.{ℕ, List, ◌++◌, codes, decimal}
-use Rattle.journal_text.specs.Difference.{Difference}
+use Rattle.run_text.specs.Difference.{Difference}
 use Rattle.tool_texts.specs.declared.output.Ending.TheVariants.{Differs}
 use Rattle.tool_texts.specs.declared.output.Output.{Output}
 

@@ -1,7 +1,7 @@
 -- The lines of an input, as many as its command takes.
 use Rattle.std.specs.Prelude.{ℕ, List, [], ◌∷◌, Result, Ok, Err}
-use Rattle.pop_lines.specs.declared.fault.LineFault.{LineFault}
-use Rattle.pop_lines.specs.declared.fault.LineFault.TheVariants as fault
+use Rattle.base_lines.specs.declared.fault.LineFault.{LineFault}
+use Rattle.base_lines.specs.declared.fault.LineFault.TheVariants as fault
 use Rattle.tool_texts.specs.declared.refusal.Refusal.{Refusal}
 use Rattle.tool_texts.specs.declared.refusal.Refusal.TheVariants.{Line}
 use Rattle.tool_texts.specs.declared.refusal.LineWhy.TheVariants.{Missing, Extra}

@@ -1,10 +1,10 @@
 -- What is written when the words or the input are refused, or the source fails. A text has no line feed yet.
 use Rattle.std.specs.Prelude.{ℕ, List, ◌++◌, codes, decimal, Result, Ok, Err}
-use Rattle.pop_lines.specs.Lines.{ended}
-use Rattle.json_shape.specs.Reasons.{pred_reason, reason}
+use Rattle.base_lines.specs.Lines.{ended}
+use Rattle.base_json.specs.Reasons.{pred_reason, reason}
 use Rattle.pop_words.specs.declared.command.Usage.{Usage}
 use Rattle.pop_words.specs.Reasons.{bad_word}
-use Rattle.journal_text.specs.Reasons.{journal_reason}
+use Rattle.run_text.specs.Reasons.{journal_reason}
 use Rattle.tool_texts.specs.declared.refusal.LineWhy.{LineWhy}
 use Rattle.tool_texts.specs.declared.refusal.LineWhy.TheVariants as line
 use Rattle.tool_texts.specs.declared.refusal.Refusal.{Refusal}

@@ -2,8 +2,8 @@
 use Rattle.std.specs.Prelude.{◌≡◌, Result, Ok, Err}
 use Rattle.pop_io.specs.declared.failure.Failure.{Failure}
 use Rattle.pop_io.specs.declared.failure.Failure.TheVariants.{Fault, NoMemory}
-use Rattle.json_shape.specs.declared.fault.FormatFault.{FormatFault}
-use Rattle.json_shape.specs.declared.fault.FormatFault.TheVariants.{Broken, NoMemory as OutOfMemory}
+use Rattle.base_json.specs.declared.fault.FormatFault.{FormatFault}
+use Rattle.base_json.specs.declared.fault.FormatFault.TheVariants.{Broken, NoMemory as OutOfMemory}
 use Rattle.tool_texts.specs.declared.refusal.Refusal.{Refusal}
 use Rattle.tool_texts.specs.declared.refusal.Refusal.TheVariants.{Format}
 

@@ -1,7 +1,7 @@
 //! What is written for a journal that isn't that of a run.
 
 use crate::output::{Ending, Output};
-use pop_lines::push_number;
+use base_lines::push_number;
 use std::alloc::{AllocError, Global};
 
 impl Output {

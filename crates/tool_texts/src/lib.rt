@@ -1,5 +1,5 @@
 //! What the text of every command is made of: refusals, differences, statuses, input lines and JSON.
-//! It stands on `pop_lines`, `pop_words`, `json_shape` and `journal_text`.
+//! It stands on `base_lines`, `pop_words`, `base_json` and `run_text`.
 //! The layer above uses: an `Output` for a refusal or a difference has exactly the text that `specs` defines.
 #![tactic(auto)]
 

@@ -1,15 +1,15 @@
 //! The lines of an input, as many as its command takes.
 
 ghost use Rattle.std.specs.Prelude.{◌≡◌, ◌≤◌, length, IfOk};
-ghost use Rattle.pop_lines.specs.Lines.{lines_of};
+ghost use Rattle.base_lines.specs.Lines.{lines_of};
 ghost use Rattle.tool_texts.specs.Steps.{GivesStep};
 ghost use Rattle.tool_texts.specs.Lines.{line_refusal, two_and_more, two_and_some, just_one, just_two, just_three};
 ghost use Rattle.pop_io.specs.declared.failure.Failure.TheVariants.{Fault};
 
 use crate::refusal::{LineWhy, Refusal};
 use crate::stop::Stop;
+use base_lines::{LineFault, next_line, one_line, three_lines, two_lines, two_lines_and_more};
 use pop_io::Failure;
-use pop_lines::{LineFault, next_line, one_line, three_lines, two_lines, two_lines_and_more};
 
 fn refused(fault: LineFault) -> Stop
     ensures { result ≡ Fault (line_refusal fault) }

@@ -4,10 +4,10 @@ ghost use Rattle.std.specs.Prelude.{Some};
 ghost use Rattle.tool_texts.specs.Refusals.{line_reason, refusal_text};
 
 use crate::output::{Ending, Output};
-use journal_text::JournalWhy;
-use json_shape::{PredWhy, Why};
+use base_json::{PredWhy, Why};
 use pop_io::Text;
 use pop_words::Usage;
+use run_text::JournalWhy;
 use std::alloc::{AllocError, Global};
 use std::fmt;
 

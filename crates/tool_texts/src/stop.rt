@@ -4,7 +4,7 @@ ghost use Rattle.std.specs.Prelude.{◌≡◌};
 ghost use Rattle.tool_texts.specs.Steps.{stop_of};
 
 use crate::refusal::Refusal;
-use json_shape::FormatFault;
+use base_json::FormatFault;
 use pop_io::Failure;
 
 /// The input is refused, or memory ran out.

@@ -1,4 +1,4 @@
-use Rattle.tree_faults.proofs.Formats.{nodes_format}
+use Rattle.cert_tree.proofs.Formats.{nodes_format}
 use Rattle.cert_goals.proofs.goal.check_goal.Goals as goal
 
 pub check_sets_and_nodes-requires-clause-nodes : goal.check_sets_and_nodes-requires-clause-nodes

@@ -1,4 +1,4 @@
-use Rattle.json_shape.specs.Paths.{path_text}
+use Rattle.base_json.specs.Paths.{path_text}
 use Rattle.pres_read.specs.Reading.{pred_read}
 use Rattle.cert_json.specs.Examined.{pred_at}
 use Rattle.cert_json.proofs.TextFaults.{text_fails}

@@ -1,6 +1,6 @@
 use Rattle.std.proofs.Common.{ap, ◌∙◌, ℕ}
 use Rattle.std.specs.Prelude.{option_map}
-use Rattle.json_shape.specs.Shapes.{last_of}
+use Rattle.base_json.specs.Shapes.{last_of}
 use Rattle.cert_json.proofs.Sets
 use Rattle.cert_json.proofs.Lasts.{last_of_all}
 use Rattle.cert_json.proofs.terms.last_state.Goals as goal

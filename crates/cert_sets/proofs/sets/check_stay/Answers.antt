@@ -1,7 +1,7 @@
 use Rattle.std.proofs.Common.{inr, List, ℕ, subst}
 use Rattle.std.specs.Prelude.{Option}
 use Rattle.cert_base.specs.ValidLayers.{moves_of_layers}
-use Rattle.goal_sets.specs.Stays.{SleepIn}
+use Rattle.theory_sets.specs.Stays.{SleepIn}
 use Rattle.cert_sets.specs.declared.fault.SetFault.{SetFault}
 use Rattle.cert_sets.specs.SetFaults.{IsLeft}
 use Rattle.cert_sets.specs.SetSearch.{FindsLeft}

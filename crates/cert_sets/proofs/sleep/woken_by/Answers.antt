@@ -4,7 +4,7 @@ use Rattle.std.proofs.lemmas.Bool.{and_parts, not-true}
 use Rattle.pop_leaf.specs.LeafModel.{IsMoveBelow, silent_move}
 use Rattle.pop_leaf.proofs.Quiet.{All-slice_get}
 use Rattle.pop_leaf.proofs.Within.{move_small}
-use Rattle.goal_sets.specs.Stays.{takes_within}
+use Rattle.theory_sets.specs.Stays.{takes_within}
 use Rattle.cert_sets.specs.SetTests.{is_silent_move}
 use Rattle.cert_sets.proofs.Woken.{finds_none, finds_beside}
 use Rattle.cert_sets.proofs.sleep.woken_by.Goals as goal

@@ -1,6 +1,6 @@
 use Rattle.std.proofs.Common.{length, ap, sym, subst, ◌∙◌}
 use Rattle.pop_leaf.specs.LeafModel.{LeafModel, IsLeaf}
-use Rattle.pop_hushed.proofs.Moves.{hushed_formed, hushed_length}
+use Rattle.pop_leaf.proofs.HushedMoves.{hushed_formed, hushed_length}
 use Rattle.cert_base.specs.ValidLayers.{moves_of_layers}
 use Rattle.cert_sets.proofs.GoodSets.{settled_by}
 use Rattle.cert_sets.proofs.stay.is_settled.Goals as goal

@@ -2,7 +2,7 @@ use Rattle.std.proofs.Common.{length, refl, ap, sym, subst, ◌∙◌}
 use Rattle.std.specs.Prelude.{Option}
 use Rattle.pop_leaf.specs.LeafModel.{LeafModel}
 use Rattle.pop_leaf.specs.FirstFault.{first_below}
-use Rattle.pop_hushed.proofs.Moves.{hushed_length}
+use Rattle.pop_leaf.proofs.HushedMoves.{hushed_length}
 use Rattle.cert_base.specs.ValidLayers.{moves_of_layers}
 use Rattle.cert_sets.specs.declared.fault.SetFault.{SetFault}
 use Rattle.cert_sets.specs.SetSearch.{FindsLeft}

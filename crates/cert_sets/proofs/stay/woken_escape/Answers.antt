@@ -1,6 +1,6 @@
 use Rattle.std.proofs.Common.{length, ap, ◌∙◌}
 use Rattle.pop_leaf.specs.LeafModel.{LeafModel}
-use Rattle.pop_hushed.proofs.Moves.{hushed_length}
+use Rattle.pop_leaf.proofs.HushedMoves.{hushed_length}
 use Rattle.cert_sets.proofs.stay.woken_escape.Goals as goal
 
 pub first_woken-requires-clause-moves : goal.first_woken-requires-clause-moves

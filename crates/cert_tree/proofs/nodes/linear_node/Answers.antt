@@ -1,5 +1,5 @@
 use Rattle.std.proofs.Common.{length, ◌∙◌, sym}
-use Rattle.tree_faults.proofs.Passed.{all_named, linear_passed}
+use Rattle.cert_tree.proofs.Passed.{all_named, linear_passed}
 use Rattle.cert_tree.proofs.nodes.linear_node.Goals as goal
 
 pub returns-clause-passed : goal.returns-clause-passed

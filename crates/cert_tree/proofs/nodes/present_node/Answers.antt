@@ -1,5 +1,5 @@
 use Rattle.std.proofs.Common.{◌<◌, length, arith}
-use Rattle.tree_faults.proofs.Passed.{present_passed}
+use Rattle.cert_tree.proofs.Passed.{present_passed}
 use Rattle.cert_tree.proofs.nodes.present_node.Goals as goal
 
 pub returns-clause-passed : goal.returns-clause-passed

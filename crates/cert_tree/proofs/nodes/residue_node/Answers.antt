@@ -1,5 +1,5 @@
 use Rattle.std.proofs.Common.{length, ◌∙◌, sym}
-use Rattle.tree_faults.proofs.Passed.{all_named, residue_passed}
+use Rattle.cert_tree.proofs.Passed.{all_named, residue_passed}
 use Rattle.cert_tree.proofs.nodes.residue_node.Goals as goal
 
 pub returns-clause-passed : goal.returns-clause-passed

@@ -1,5 +1,5 @@
 use Rattle.std.proofs.Common.{◌∙◌, sym}
-use Rattle.tree_faults.proofs.Passed.{split_passed}
+use Rattle.cert_tree.proofs.Passed.{split_passed}
 use Rattle.cert_tree.proofs.nodes.split_node.Goals as goal
 
 pub returns-clause-passed : goal.returns-clause-passed

@@ -2,14 +2,14 @@ use Rattle.std.proofs.Common.{◌≡◌, ◌≤◌, ◌+◌, ◌∙◌, List, re
 use Rattle.std.specs.Prelude.{Some, []}
 use Rattle.std.proofs.lemmas.List.{drop_all}
 use Rattle.std.proofs.lemmas.Result.{err_from_is_err_and}
-use Rattle.tree_faults.specs.declared.fault.TreeWhy.TheVariants.{Missing}
-use Rattle.tree_faults.specs.declared.fault.TreeFault.{TreeFault}
+use Rattle.cert_tree.specs.declared.fault.TreeWhy.TheVariants.{Missing}
+use Rattle.cert_tree.specs.declared.fault.TreeFault.{TreeFault}
 use Rattle.pop_io.specs.declared.failure.Failure.TheVariants.{Fault}
 use Rattle.pop_io.specs.Failures.{Names}
-use Rattle.tree_faults.specs.Refusals.{Waiting, waits, first_from, IsFaultFor}
+use Rattle.cert_tree.specs.Refusals.{Waiting, waits, first_from, IsFaultFor}
 use Rattle.cert_tree.specs.Walks.{waiting, StandsAt}
-use Rattle.tree_faults.proofs.ClosedWalk.{unrefused-ClosesFor}
-use Rattle.tree_faults.proofs.Verdicts.{broken_at, missing_at, none_at, only_memory, item_at}
+use Rattle.cert_tree.proofs.ClosedWalk.{unrefused-ClosesFor}
+use Rattle.cert_tree.proofs.Verdicts.{broken_at, missing_at, none_at, only_memory, item_at}
 use Rattle.cert_tree.proofs.tree.walk_nodes.Goals as goal
 
 pub loop-number-init : goal.loop-number-init

@@ -1,5 +1,5 @@
 use Rattle.std.proofs.Common.{◌≡◌, drop}
-use Rattle.tree_faults.specs.Refusals.{first_for, first_from}
+use Rattle.cert_tree.specs.Refusals.{first_for, first_from}
 use Rattle.cert_tree.specs.Walks.{waiting, IsSound}
 use Rattle.cert_tree.proofs.tree.walk_nodes.Given as goal
 

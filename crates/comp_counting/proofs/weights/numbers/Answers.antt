@@ -1,6 +1,6 @@
 use Rattle.std.proofs.Common.{◌∙◌, ◌++◌, ◌∷◌, [], ap, sym}
 use Rattle.comp_counting.proofs.weights.numbers.Goals as goal
-use Rattle.list_laws.proofs.Ranges.{range_one_more}
+use Rattle.base_laws.proofs.Ranges.{range_one_more}
 
 pub loop-number-preserved : goal.loop-number-preserved
 loop-number-preserved c =

@@ -6,7 +6,7 @@ use Rattle.comp_counting.specs.FlockAtoms.{IsOffset, offset_pred_of}
 use Rattle.comp_flock.specs.FlockLeaf.{HasSpareRoom, offset_leaf_of}
 use Rattle.comp_counting.specs.FullState.{offset_steps}
 use Rattle.comp_flock.proofs.Offsets.{flock-offset}
-use Rattle.comp_flock.proofs.Valid.{no-spare, flock-built}
+use Rattle.comp_flock.proofs.FlockValid.{no-spare, flock-built}
 use Rattle.comp_flock.proofs.whole.flock.Goals as goal
 
 pub offset_flock-requires-clause-offset : goal.offset_flock-requires-clause-offset

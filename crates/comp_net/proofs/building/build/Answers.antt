@@ -6,11 +6,12 @@ use Rattle.cert_base.specs.ProofLimits.{IsProofWithin}
 use Rattle.cert_base.specs.ValidProof.{ValidProof}
 use Rattle.cert_base.specs.FactsAndCases.{over_count}
 use Rattle.pop_checker.specs.Sound.{IsRight}
+use Rattle.theory_tame.specs.Laws.{AreTameEach}
 use Rattle.comp_net.specs.Atoms.{atoms, most_helpers, AreBuildable}
 use Rattle.comp_net.specs.BuiltNet.{net_of}
 use Rattle.comp_net.specs.Building.{AreAtomProofs}
 use Rattle.comp_net.proofs.Adding.{whole, whole_as}
-use Rattle.comp_net.proofs.Valid.{pred_buildable, proof-valid, proof-within, proof-preds, bound-is, net-right, net-single, net-formed, net-as}
+use Rattle.comp_net.proofs.Valid.{pred_buildable, proof-valid, proof-within, proof-preds, bound-is, net-right, net-single, net-tame, net-formed, net-as}
 use Rattle.comp_net.proofs.building.build.Goals as goal
 
 pub push_tree-requires-clause-atoms : goal.push_tree-requires-clause-atoms
@@ -45,6 +46,7 @@ returns c =
       formed = subst IsNet (sym net) (net-formed choice names tree c.requires.formed (subst (λ n. IsPred n tree) (sym c.requires.count) c.tree-tree.ensures.limits) c.requires.none);
       preds = proof-preds choice pred.variables tree c.from_vec-3.result parts c.tree-tree.ensures.limits;
       single = subst IsSingle (sym net) (net-single choice names pred.variables tree c.tree-tree.ensures.limits c.requires.none);
+      tame = subst (λ n. AreTameEach n (record { leaves = c.from_vec-3.result })) (sym net) (net-tame choice names tree c.from_vec-3.result parts);
       right = subst (λ (n : NetModel). IsRight n pred (record { leaves = c.from_vec-3.result })) (sym net)
           (subst (λ k. IsRight (net_of choice names tree) (over_count k tree) (record { leaves = c.from_vec-3.result })) c.requires.count
           (net-right choice names tree c.from_vec-3.result parts c.requires.formed (subst (λ n. IsPred n tree) (sym c.requires.count) c.tree-tree.ensures.limits) c.requires.none));

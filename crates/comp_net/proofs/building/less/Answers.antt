@@ -11,7 +11,7 @@ use Rattle.comp_threshold.specs.Built.{IsThreshold}
 use Rattle.comp_counting.specs.FlockAtoms.{enough_for, IsOffset, flock_pred_of, offset_pred_of}
 use Rattle.comp_counting.specs.FullState.{flock_start, offset_steps}
 use Rattle.comp_flock.specs.FlockLeaf.{offset_leaf_of, offset_helper_count}
-use Rattle.comp_prefix.specs.PrefixLeaf.{IsPrefix, prefix_leaf_of, last_place}
+use Rattle.comp_flock.specs.PrefixLeaf.{IsPrefix, prefix_leaf_of, last_place}
 use Rattle.comp_powers_leaf.specs.PowersLeaf.{place, start_of, coefficient_of, powers_leaf_of, IsPowers}
 use Rattle.comp_powers.specs.PowersProof.{powers_pred_of, powers_steps}
 use Rattle.comp_net.specs.Atoms.{less_leaf_for}

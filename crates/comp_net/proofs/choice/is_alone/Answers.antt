@@ -1,7 +1,7 @@
 use Rattle.std.proofs.Common.{◌∙◌, ap, rules, w64, SFits}
 use Rattle.std.specs.Prelude.{is_some}
 use Rattle.std.proofs.lemmas.Int.{to_z-of_z}
-use Rattle.comp_prefix.specs.PrefixLeaf.{prefix_top}
+use Rattle.comp_flock.specs.PrefixLeaf.{prefix_top}
 use Rattle.comp_net.proofs.choice.is_alone.Goals as goal
 
 pub returns : goal.returns

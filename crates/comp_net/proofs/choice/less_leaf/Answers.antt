@@ -1,7 +1,7 @@
 use Rattle.std.proofs.Common.{◌∙◌, ap, sym, rules, w64, SFits}
 use Rattle.std.proofs.lemmas.Int.{to_z-of_z}
 use Rattle.comp_counting.specs.FlockAtoms.{power_of, offset_power}
-use Rattle.comp_prefix.specs.PrefixLeaf.{prefix_top}
+use Rattle.comp_flock.specs.PrefixLeaf.{prefix_top}
 use Rattle.comp_powers_leaf.specs.PowersRange.{powers_range}
 use Rattle.comp_net.specs.declared.choice.NetLeaves.{NetLeaves}
 use Rattle.comp_net.specs.declared.choice.LessLeaf.{LessLeaf}

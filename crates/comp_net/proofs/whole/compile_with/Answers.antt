@@ -24,6 +24,7 @@ returns c =
       preds = is.preds;
       single = is.single;
       right = is.right;
+      tame = is.tame;
       accepted = subst (λ l. IfOk result (λ both. fault_in l tree ≡ None)) leaves is.accepted;
       refused = subst (λ l. IfFault result (RefusesIn l tree)) leaves is.refused;
     }

@@ -8,6 +8,8 @@ use Rattle.comp_powers.specs.PowersProof.{powers_part}
 use Rattle.comp_powers.proofs.Parts.{whole-valid}
 use Rattle.comp_powers.proofs.Steps.{steps_are}
 use Rattle.comp_powers.proofs.Within.{powers-within}
+use Rattle.comp_powers.proofs.Layers.{layers-tame}
+use Rattle.cert_base.specs.TameLayers.{TameLayers}
 use Rattle.comp_powers.proofs.whole.powers.Goals as goal
 
 pub returns : goal.returns
@@ -25,4 +27,5 @@ returns c =
       bound = ap (λ (part : LeafProof). layers_bound part.layers) part_is ∙ steps_are coefs k;
       within = subst (IsLeafProofWithin (length coefs)) (sym part_is) (powers-within coefs c.args.bound k c.args.spare c.requires.range c.requires.room);
       single = c.in_ok-leaf.ensures.single;
+      tame = subst (λ l. TameLayers l c.in_ok-proof.proof.layers) (sym leaf_is) (subst (λ (p : LeafProof). TameLayers (powers_leaf_of coefs c.args.bound k c.args.spare) p.layers) (sym part_is) (layers-tame coefs c.args.bound k c.args.spare));
     }

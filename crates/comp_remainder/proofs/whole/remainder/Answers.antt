@@ -4,7 +4,7 @@ use Rattle.cert_base.specs.ProofBound.{layers_bound}
 use Rattle.cert_base.specs.ProofLimits.{IsLeafProofWithin}
 use Rattle.comp_remainder.specs.RemainderLeaf.{remainder_leaf_of}
 use Rattle.comp_remainder.proofs.Steps.{steps_are}
-use Rattle.comp_remainder.proofs.Valid.{remainder-within, whole-valid}
+use Rattle.comp_remainder.proofs.Valid.{remainder-within, whole-valid, whole-tame}
 use Rattle.comp_remainder.proofs.whole.remainder.Goals as goal
 
 pub returns-clause-built : goal.returns-clause-built
@@ -20,6 +20,7 @@ returns-clause-built c =
       bound = ap (λ (part : LeafProof). layers_bound part.layers) c.in_ok-proof.ensures ∙ steps_are (remainder_leaf_of coefs c.args.modulus c.args.rest c.args.spare) c.args.modulus (let l = modulus.low in omega (arith, l));
       within = subst (IsLeafProofWithin (length coefs)) (sym c.in_ok-proof.ensures) (remainder-within coefs c.args.modulus c.args.rest c.args.spare sum.some sum.few modulus.low modulus.high modulus.left c.requires.spare);
       single = c.in_ok-leaf.ensures.single;
+      tame = whole-tame coefs c.args.modulus c.args.rest c.args.spare c.in_ok-leaf.leaf _ built c.in_ok-proof.ensures;
     }
 
 pub remainder_leaf-requires : goal.remainder_leaf-requires

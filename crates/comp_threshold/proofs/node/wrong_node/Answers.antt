@@ -10,7 +10,7 @@ use Rattle.comp_trees.proofs.TrapNodes.{range-constant}
 use Rattle.comp_threshold.specs.ThresholdLeaf.{threshold_state_count, threshold_output}
 use Rattle.comp_threshold.specs.ThresholdProof.{wrong_sign}
 use Rattle.comp_threshold.proofs.node.wrong_node.Goals as goal
-use Rattle.list_laws.proofs.Ranges.{all_range}
+use Rattle.base_laws.proofs.Ranges.{all_range}
 
 -- the signs, by the outputs of the leaf
 signs-are : (s t : ℕ) (b : Bool) (outputs : List Bool) (n : ℕ) → n ≡ threshold_state_count s → outputs ≡ map (threshold_output s t) (range_with_len 0 (threshold_state_count s)) → map (wrong_sign s t b) (range_with_len 0 (threshold_state_count s)) ≡ map (λ q. neg_ℤ (indicator (differs b (get_or outputs q false)))) (range_with_len 0 n)

@@ -1,6 +1,6 @@
 use Rattle.std.proofs.Common.{◌++◌, ◌∷◌, [], ◌∙◌, ap, sym}
 use Rattle.comp_trees.proofs.preorder.leader_set.Goals as goal
-use Rattle.list_laws.proofs.Ranges.{range_one_more}
+use Rattle.base_laws.proofs.Ranges.{range_one_more}
 
 pub loop-p-preserved : goal.loop-p-preserved
 loop-p-preserved c =

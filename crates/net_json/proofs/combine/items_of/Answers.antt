@@ -2,11 +2,11 @@ use Rattle.std.proofs.Common.{◌≡◌, true, false, arith, ◌∙◌}
 use Rattle.std.proofs.lemmas.Bool.{OnTrue_at}
 use Rattle.std.proofs.lemmas.Result.{err_from_is_err_and}
 use Rattle.serde_json.specs.View.{view}
-use Rattle.json_shape.specs.Paths.{path_text}
+use Rattle.base_json.specs.Paths.{path_text}
 use Rattle.pop_leaf.specs.NetModel.{after_item, depth_operators}
 use Rattle.pop_net.specs.NetFaults.{names_below, are_low}
 use Rattle.net_json.specs.Examined.{combine_item, combine_items_at}
-use Rattle.json_shape.proofs.Each.{each-fails, each-goes, each-done}
+use Rattle.base_json.proofs.Each.{each-fails, each-goes, each-done}
 use Rattle.net_json.proofs.Items.{open_next, operand-fails, shape-fails, item-goes, and_second}
 use Rattle.net_json.proofs.combine.items_of.Goals as goal
 use Rattle.pop_net.proofs.Trees.{after_item_few}

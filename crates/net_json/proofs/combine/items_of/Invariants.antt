@@ -1,7 +1,7 @@
 use Rattle.std.proofs.Common.{◌≡◌, [], map, drop}
 use Rattle.serde_json.specs.View.{view}
-use Rattle.json_shape.specs.Paths.{path_text}
-use Rattle.json_shape.specs.Shapes.{each}
+use Rattle.base_json.specs.Paths.{path_text}
+use Rattle.base_json.specs.Shapes.{each}
 use Rattle.net_json.specs.Examined.{combine_item}
 use Rattle.net_json.proofs.Items.{Reading}
 use Rattle.net_json.proofs.combine.items_of.Given as goal

@@ -1,7 +1,7 @@
 use Rattle.std.proofs.Common.{arith, ap, inl, inr, ◌<◌, ◌⊎◌, length}
 use Rattle.std.proofs.lemmas.Bool.Decides.{nat_tests}
-use Rattle.json_shape.specs.declared.fault.Why.TheVariants.{Kind}
-use Rattle.json_shape.proofs.FaultLemmas.{Fails-said}
+use Rattle.base_json.specs.declared.fault.Why.TheVariants.{Kind}
+use Rattle.base_json.proofs.FaultLemmas.{Fails-said}
 use Rattle.net_json.proofs.Moves.{move_at-else}
 use Rattle.net_json.specs.Examined.{move_at}
 use Rattle.std.proofs.lemmas.Grind.{common_steps}

@@ -1,6 +1,6 @@
 use Rattle.std.proofs.Common.{ap, length, refl, inl}
 use Rattle.serde_json.specs.View.{view}
-use Rattle.json_shape.specs.Paths.{path_text}
+use Rattle.base_json.specs.Paths.{path_text}
 use Rattle.net_json.specs.declared.format.TheConstants.{PLAIN_FORMAT}
 use Rattle.net_json.proofs.LeafLaws.{leaf_read}
 use Rattle.net_json.proofs.leaves.leaf_of.Goals as goal

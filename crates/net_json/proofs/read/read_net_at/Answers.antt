@@ -1,6 +1,6 @@
 use Rattle.std.proofs.Common.{ap, length}
 use Rattle.serde_json.specs.View.{view}
-use Rattle.json_shape.specs.Paths.{path_text}
+use Rattle.base_json.specs.Paths.{path_text}
 use Rattle.net_json.proofs.NetLaws.{net_read}
 use Rattle.net_json.proofs.read.read_net_at.Goals as goal
 

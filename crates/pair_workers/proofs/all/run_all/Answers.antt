@@ -3,11 +3,11 @@ use Rattle.std.specs.Prelude.{true, ◌↔◌}
 use Rattle.pop_leaf.specs.NetModel.{NetModel}
 use Rattle.pop_net.specs.Lanes.{crowd_of, AreValid}
 use Rattle.pop_crowd.specs.declared.crowd.Meeting.{Meeting}
-use Rattle.pair_runs.specs.Turns.{ArePlayed}
-use Rattle.pair_runs.specs.Ends.{RunGoesOn}
-use Rattle.pair_runs.proofs.OnlyRun.{only_run}
-use Rattle.pair_runs.proofs.ManyRounds.{AreOnTheRun, all_more_rounds, all_no_rounds}
-use Rattle.pair_runs.proofs.RunEnds.{run_ended_at_net}
+use Rattle.run_picks.specs.Turns.{ArePlayed}
+use Rattle.run_picks.specs.Ends.{RunGoesOn}
+use Rattle.run_picks.proofs.OnlyRun.{only_run}
+use Rattle.run_picks.proofs.ManyRounds.{AreOnTheRun, all_more_rounds, all_no_rounds}
+use Rattle.run_picks.proofs.RunEnds.{run_ended_at_net}
 use Rattle.pair_workers.proofs.all.run_all.Goals as goal
 
 pub rounds-preserved : goal.rounds-preserved

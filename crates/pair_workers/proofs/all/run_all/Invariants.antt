@@ -1,7 +1,7 @@
 use Rattle.std.proofs.Common.{◌≡◌, ◌≤◌, length}
 use Rattle.pop_net.specs.Lanes.{crowd_of, AreValid}
 use Rattle.agent_field.specs.Layouts.{Serves}
-use Rattle.pair_runs.proofs.ManyRounds.{AreOnTheRun}
+use Rattle.run_picks.proofs.ManyRounds.{AreOnTheRun}
 use Rattle.pair_workers.proofs.all.run_all.Given as goal
 
 abbrev pub invariant-rounds : goal.invariant-rounds

@@ -9,7 +9,7 @@ use Rattle.agent_field.specs.Layouts.{Serves}
 use Rattle.agent_field.proofs.Lent.{whole_written}
 use Rattle.agent_field.specs.Seats.{net_of, opening_of, seats_of, log_of}
 use Rattle.pair_workers.specs.declared.work.Worker.{Worker}
-use Rattle.pair_runs.specs.Turns.{HasPicked, ArePlayed}
+use Rattle.run_picks.specs.Turns.{HasPicked, ArePlayed}
 use Rattle.pair_workers.specs.Work.{MayWork, AreDone, HasAll, agents_of_field, pairs_of}
 use Rattle.pair_workers.proofs.FieldRounds.{front, are_done, all_picked, are_played, as_long}
 use Rattle.pair_workers.proofs.round.field_round.Goals as goal

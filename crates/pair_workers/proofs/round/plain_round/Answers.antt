@@ -1,7 +1,7 @@
 use Rattle.std.proofs.Common.{◌<◌, length, arith, ◌∙◌, rules}
 use Rattle.std.proofs.lemmas.List.{get_or_default}
 use Rattle.pop_net.specs.Lanes.{crowd_of}
-use Rattle.pair_runs.proofs.ManyRounds.{alone_played}
+use Rattle.run_picks.proofs.ManyRounds.{alone_played}
 use Rattle.pair_workers.proofs.round.plain_round.Goals as goal
 
 pub returns : goal.returns

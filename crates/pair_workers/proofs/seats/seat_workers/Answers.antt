@@ -4,7 +4,7 @@ use Rattle.std.proofs.lemmas.Iterator.Adapters.{YieldsList-from_vec}
 use Rattle.std.proofs.lemmas.Iterator.Consumers.{YieldsList-turn, YieldsList-end}
 use Rattle.pair_workers.specs.declared.work.Worker.{Worker}
 use Rattle.pair_workers.specs.Work.{IsReady}
-use Rattle.pair_runs.proofs.Turns.{each-push_is}
+use Rattle.run_picks.proofs.Turns.{each-push_is}
 use Rattle.pair_workers.proofs.seats.seat_workers.Goals as goal
 
 pub split-requires-clause-left : goal.split-requires-clause-left

@@ -1,6 +1,6 @@
 use Rattle.std.proofs.Common.{◌≤◌, ◌+◌}
 use Rattle.agent_field.specs.Seats.{IsSeatOf, KeepsRest, log_of, spare_of}
-use Rattle.pair_runs.specs.Turns.{HasPicked}
+use Rattle.run_picks.specs.Turns.{HasPicked}
 use Rattle.pair_workers.specs.Work.{agents_of_field, pairs_of}
 use Rattle.pair_workers.proofs.work.work.Given as goal
 

@@ -1,4 +1,4 @@
-use Rattle.tree_faults.proofs.Formats.{nodes_format}
+use Rattle.cert_tree.proofs.Formats.{nodes_format}
 use Rattle.std.proofs.Common.{rules}
 use Rattle.pop_checker.proofs.part.check_value.Goals as goal
 

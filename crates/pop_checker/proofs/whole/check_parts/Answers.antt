@@ -2,7 +2,7 @@ use Rattle.std.proofs.Common.{◌<◌, length, ap, arith}
 use Rattle.std.proofs.lemmas.Result.{err_from_is_err_and}
 use Rattle.cert_base.specs.declared.proof.LeafProof.{LeafProof}
 use Rattle.cert_base.specs.ProofBound.{layers_bound}
-use Rattle.net_laws.proofs.LeafByLeaf.{part_at}
+use Rattle.theory_nets.proofs.LeafByLeaf.{part_at}
 use Rattle.pop_checker.specs.Parts.{IsRightPart, IsPartFault}
 use Rattle.pop_checker.specs.Rejections.{IsRejected}
 use Rattle.pop_checker.proofs.Firsts.{first_fault}

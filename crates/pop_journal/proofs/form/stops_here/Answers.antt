@@ -1,6 +1,6 @@
 use Rattle.std.proofs.Common.{◌≡◌, ℕ, false, List, [], ◌∷◌, sym, ◌∙◌}
 use Rattle.std.specs.Prelude.{Option, Some}
-use Rattle.pop_lines.specs.Lines.{lines_of}
+use Rattle.base_lines.specs.Lines.{lines_of}
 use Rattle.run_spec.specs.declared.kind.RunKind.{RunKind}
 use Rattle.pop_journal.specs.declared.form.MeetingLine.{MeetingLine}
 use Rattle.pop_journal.specs.Form.{Tells}

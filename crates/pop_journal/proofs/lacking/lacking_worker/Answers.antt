@@ -1,7 +1,7 @@
 use Rattle.std.proofs.Common.{ℕ, ◌+◌, nat_lt, List, length, get_or, ap, ◌∙◌, arith}
 use Rattle.std.specs.Prelude.{find}
 use Rattle.std.specs.List.{range_with_len}
-use Rattle.pair_runs.specs.Run.{meetings_of, turns_in}
+use Rattle.run_picks.specs.Run.{meetings_of, turns_in}
 use Rattle.pop_journal.proofs.Lacks.{found_alike}
 use Rattle.pop_journal.proofs.lacking.lacking_worker.Goals as goal
 

@@ -3,7 +3,7 @@ use Rattle.std.proofs.lemmas.List.{length-set, length-take-le, take_more}
 use Rattle.std.proofs.lemmas.List.Elements.{All-get_or}
 use Rattle.std.proofs.lemmas.List.Filters.{length-filter_both}
 use Rattle.pop_crowd.specs.declared.crowd.Meeting.{Meeting}
-use Rattle.pair_runs.specs.Run.{meetings_of}
+use Rattle.run_picks.specs.Run.{meetings_of}
 use Rattle.pop_journal.proofs.ReadBack.{counts_next}
 use Rattle.pop_journal.proofs.lacking.made_by_workers.Goals as goal
 

@@ -1,5 +1,5 @@
 use Rattle.std.proofs.Common.{◌≡◌, ℕ, ◌<◌, length, get_or, take}
-use Rattle.pair_runs.specs.Run.{meetings_of}
+use Rattle.run_picks.specs.Run.{meetings_of}
 use Rattle.pop_journal.proofs.lacking.made_by_workers.Given as goal
 
 abbrev pub invariant-loop-meeting : goal.invariant-loop-meeting

@@ -1,5 +1,5 @@
 use Rattle.std.proofs.Common.{arith}
-use Rattle.pop_lines.specs.Lines.{lines_of}
+use Rattle.base_lines.specs.Lines.{lines_of}
 use Rattle.pop_journal.proofs.Written.{form_of, spelling_of}
 use Rattle.pop_journal.proofs.read.read_journal.Goals as goal
 

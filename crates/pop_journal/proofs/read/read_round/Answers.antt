@@ -1,8 +1,8 @@
 use Rattle.std.proofs.Common.{◌≡◌, ℕ, ◌+◌, ◌*◌, ◌<◌, ◌∷◌, [], ◌++◌, List, length, get_or, set, ap, sym, subst, ◌∙◌, arith, length-append}
 use Rattle.std.proofs.lemmas.List.{length-set}
-use Rattle.pop_lines.specs.Lines.{lines_of}
+use Rattle.base_lines.specs.Lines.{lines_of}
 use Rattle.pop_crowd.specs.declared.crowd.Meeting.{Meeting}
-use Rattle.pair_runs.specs.Run.{meetings_of}
+use Rattle.run_picks.specs.Run.{meetings_of}
 use Rattle.pop_journal.specs.Form.{lines_read, settled, wanted}
 use Rattle.pop_journal.proofs.ReadBack.{read_told, read_stopped, counts_next}
 use Rattle.pop_journal.proofs.read.read_round.Goals as goal

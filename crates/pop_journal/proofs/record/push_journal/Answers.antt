@@ -1,5 +1,5 @@
 use Rattle.pop_net.specs.Lanes.{crowd_of}
-use Rattle.journal_text.proofs.Texts.{journal_written}
+use Rattle.run_text.proofs.Texts.{journal_written}
 use Rattle.std.proofs.lemmas.Result.{on_ok_weaker}
 use Rattle.pop_journal.proofs.record.push_journal.Goals as goal
 

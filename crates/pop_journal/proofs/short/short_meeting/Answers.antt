@@ -1,6 +1,6 @@
 use Rattle.std.proofs.Common.{rules, ◌<◌, ◌^◌, ℕ, sym, subst}
 use Rattle.std.specs.Prelude.{Some}
-use Rattle.pop_lines.specs.Lines.{lines_of}
+use Rattle.base_lines.specs.Lines.{lines_of}
 use Rattle.pop_journal.specs.Form.{Tells}
 use Rattle.pop_journal.proofs.FormLaws.{line_of}
 use Rattle.pop_journal.proofs.Leading.{short_told}

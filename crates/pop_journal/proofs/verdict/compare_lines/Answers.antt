@@ -1,12 +1,12 @@
 use Rattle.std.proofs.Common.{◌≡◌, ◌++◌, ◌+◌, ◌<◌, ◌∷◌, ℕ, List, Option, length, get_or, take, drop, sym, ap, subst, ◌∙◌, arith, length-append}
 use Rattle.std.specs.Prelude.{IfSome}
 use Rattle.std.proofs.lemmas.Result.{err_from_is_err_and}
-use Rattle.pop_lines.specs.Lines.{lines_of}
+use Rattle.base_lines.specs.Lines.{lines_of}
 use Rattle.pop_net.specs.Lanes.{crowd_of}
 use Rattle.pop_crowd.specs.declared.crowd.Meeting.{Meeting}
 use Rattle.pop_crowd.specs.Replay.{replay}
 use Rattle.terminal_test.specs.TableNet.{table_net}
-use Rattle.pair_runs.specs.Run.{joined}
+use Rattle.run_picks.specs.Run.{joined}
 use Rattle.pop_journal.specs.Expected.{Compared, first_difference, lacking, rounds_compared, tail_compared, whole_tail_until, journal_compared_until}
 use Rattle.pop_journal.specs.Standing.{IsReplaying, lacking_behind}
 use Rattle.pop_journal.proofs.AlongTheJournal.{round_compared, round_passed, round_differs, carried}

@@ -1,5 +1,5 @@
 use Rattle.std.proofs.Common.{length}
-use Rattle.journal_text.specs.declared.last.Outcome.TheVariants.{Known}
+use Rattle.run_text.specs.declared.last.Outcome.TheVariants.{Known}
 use Rattle.pop_journal.proofs.RunKinds.{are_watched}
 use Rattle.pop_journal.proofs.Verdicts.{holds_where, fails_where}
 use Rattle.pop_journal.proofs.verdict.verify_settled.Goals as goal

@@ -1,5 +1,5 @@
 use Rattle.std.proofs.Common.{Ok, Err, refl}
-use Rattle.pop_lines.specs.Lines.{lines_of}
+use Rattle.base_lines.specs.Lines.{lines_of}
 use Rattle.tool_courses.proofs.Leads.{text_leads, leads_wider}
 use Rattle.pop_tool.specs.Answer.{IsOfCommand}
 use Rattle.pop_tool.proofs.prepare.prepare_for.Goals as goal

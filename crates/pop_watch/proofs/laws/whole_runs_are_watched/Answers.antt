@@ -1,4 +1,4 @@
-use Rattle.pair_runs.proofs.WholeWatched.{whole_is_watched}
+use Rattle.run_picks.proofs.WholeWatched.{whole_is_watched}
 use Rattle.pop_watch.proofs.laws.whole_runs_are_watched.Goals as goal
 
 pub returns : goal.returns

@@ -1,7 +1,7 @@
 use Rattle.std.proofs.Common.{◌≡◌, ℕ, suc, ◌+◌, ◌*◌, ◌-◌, ◌<◌, ◌≤◌, length, get_or, refl, ap, sym, subst, ◌∙◌, arith, rules, ⊎_elim}
 use Rattle.std.proofs.lemmas.Bool.{cases_eq}
 use Rattle.std.proofs.Math.Nat.{mul-le-mul_right, suc-mul}
-use Rattle.pair_runs.specs.Run.{made_by}
+use Rattle.run_picks.specs.Run.{made_by}
 use Rattle.pop_watch.proofs.MoreMeetings.{keeps_same, goes_on_more, has_mine, has_others}
 use Rattle.pop_watch.proofs.missing.make_missing.Goals as goal
 

@@ -1,7 +1,7 @@
 use Rattle.std.proofs.Common.{◌≡◌, ℕ, ◌+◌, ◌*◌, ◌<◌, ◌≤◌, length}
 use Rattle.std.specs.Prelude.{vec_capacity}
 use Rattle.pop_net.specs.Lanes.{AreValid}
-use Rattle.pair_runs.specs.Run.{made_by}
+use Rattle.run_picks.specs.Run.{made_by}
 use Rattle.pop_watch.specs.Playing.{KeepsPlaying}
 use Rattle.pop_watch.proofs.missing.make_missing.Given as goal
 

@@ -3,8 +3,8 @@ use Rattle.std.proofs.lemmas.List.{get_or_default, length-map}
 use Rattle.pop_leaf.specs.NetModel.{CrowdModel}
 use Rattle.pop_net.specs.Lanes.{crowd_of, tuple_of}
 use Rattle.pop_crowd.specs.declared.crowd.Meeting.{Meeting}
-use Rattle.pair_runs.specs.Picks.{picks_from, words_from}
-use Rattle.pair_runs.specs.Run.{made_by}
+use Rattle.run_picks.specs.Picks.{picks_from, words_from}
+use Rattle.run_picks.specs.Run.{made_by}
 use Rattle.pop_watch.specs.Playing.{ArePlaying}
 use Rattle.pop_watch.proofs.MoreMeetings.{one_more, made_more}
 use Rattle.pop_watch.proofs.missing.push_next.Goals as goal

@@ -1,6 +1,6 @@
 use Rattle.std.proofs.Common.{sym}
 use Rattle.terminal_test.specs.TableNet.{table_net}
-use Rattle.pair_runs.proofs.SameLanes.{valid_same}
+use Rattle.run_picks.proofs.SameLanes.{valid_same}
 use Rattle.pop_watch.proofs.observe.look_on.Goals as goal
 
 pub is_terminal-requires : goal.is_terminal-requires

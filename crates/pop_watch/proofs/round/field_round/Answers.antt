@@ -11,7 +11,7 @@ use Rattle.agent_field.specs.Layouts.{Serves}
 use Rattle.agent_field.proofs.Lent.{whole_written}
 use Rattle.agent_field.specs.Seats.{net_of, opening_of, seats_of, log_of}
 use Rattle.pair_workers.proofs.FieldRounds.{are_done, as_long}
-use Rattle.pair_runs.specs.Run.{made_by}
+use Rattle.run_picks.specs.Run.{made_by}
 use Rattle.pair_workers.specs.declared.work.Worker.{Worker}
 use Rattle.pair_workers.specs.Work.{MayWork, AreDone, HasAll}
 use Rattle.pop_watch.specs.Playing.{ArePlaying, of_worker}

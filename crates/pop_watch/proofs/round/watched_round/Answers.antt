@@ -6,8 +6,8 @@ use Rattle.pop_leaf.specs.Step.{Step}
 use Rattle.pop_leaf.specs.Terminal.{IsTerminal}
 use Rattle.pop_net.specs.Lanes.{crowd_of}
 use Rattle.terminal_test.specs.TableNet.{table_net}
-use Rattle.pair_runs.specs.Run.{made_by}
-use Rattle.pair_runs.proofs.SameLanes.{crowd_same, valid_same}
+use Rattle.run_picks.specs.Run.{made_by}
+use Rattle.run_picks.proofs.SameLanes.{crowd_same, valid_same}
 use Rattle.pop_watch.specs.Playing.{IsPlayedFrom}
 use Rattle.pop_watch.proofs.round.watched_round.Goals as goal
 

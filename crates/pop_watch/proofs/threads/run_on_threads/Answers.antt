@@ -2,11 +2,11 @@ use Rattle.std.proofs.Common.{◌≡◌, min, [], ◌∷◌, ◌++◌, inl, sym,
 use Rattle.std.specs.Prelude.{true, ◌↔◌}
 use Rattle.pop_leaf.specs.NetModel.{NetModel}
 use Rattle.pop_net.specs.Lanes.{crowd_of, AreValid}
-use Rattle.pair_runs.specs.Ends.{RunGoesOn, IsEndOf}
-use Rattle.pair_runs.proofs.ManyRounds.{all_no_rounds}
-use Rattle.pair_runs.proofs.RunEnds.{goes_at}
-use Rattle.pair_runs.proofs.SameLanes.{valid_same}
-use Rattle.pair_runs.proofs.Taken.{takes_more}
+use Rattle.run_picks.specs.Ends.{RunGoesOn, IsEndOf}
+use Rattle.run_picks.proofs.ManyRounds.{all_no_rounds}
+use Rattle.run_picks.proofs.RunEnds.{goes_at}
+use Rattle.run_picks.proofs.SameLanes.{valid_same}
+use Rattle.run_picks.proofs.Taken.{takes_more}
 use Rattle.pop_watch.specs.RunsOfKind.{IsRoundOf}
 use Rattle.pop_watch.proofs.RunsOfKind.{begun_of, round_more_of, sizes_of, run_ended_of}
 use Rattle.pop_watch.proofs.threads.run_on_threads.Goals as goal

@@ -1,6 +1,6 @@
 use Rattle.std.proofs.Common.{List, ℕ, ◌++◌, ap, ◌∙◌}
-use Rattle.journal_text.specs.Journal.{round_lines, text_of}
-use Rattle.journal_text.proofs.MadeAlone.{ended_text}
+use Rattle.run_text.specs.Journal.{round_lines, text_of}
+use Rattle.run_text.proofs.MadeAlone.{ended_text}
 use Rattle.pop_watch.proofs.WrittenAll.{all_written}
 use Rattle.pop_watch.proofs.written.push_run.Goals as goal
 

@@ -2,7 +2,7 @@ use Rattle.std.proofs.Common.{◌≡◌, ◌∷◌, ℕ, List, true, Option, Non
 use Rattle.std.specs.Option.{option_copied}
 use Rattle.std.specs.Str.{bytes_eq}
 use Rattle.std.proofs.lemmas.Bool.{not-false}
-use Rattle.pop_lines.specs.Lines.{pieces}
+use Rattle.base_lines.specs.Lines.{pieces}
 use Rattle.pop_words.specs.Counts.{counts_of, with_words}
 use Rattle.pop_words.specs.WordsBehind.{words_behind}
 use Rattle.pop_words.proofs.Cuts.{words-cut}

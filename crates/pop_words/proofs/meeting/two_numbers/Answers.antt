@@ -2,7 +2,7 @@ use Rattle.std.proofs.Common.{◌≡◌, ◌<◌, ◌∷◌, ◌∙◌, [], ℕ,
 use Rattle.std.specs.Prelude.{is_some}
 use Rattle.std.specs.Option.{option_copied}
 use Rattle.std.proofs.lemmas.List.Splits.{length-slice_split}
-use Rattle.pop_lines.specs.Lines.{pieces, IsCut}
+use Rattle.base_lines.specs.Lines.{pieces, IsCut}
 use Rattle.pop_words.specs.Meetings.{pair_of}
 use Rattle.pop_words.proofs.meeting.two_numbers.Goals as goal
 

@@ -2,7 +2,7 @@ use Rattle.std.proofs.Common.{◌≡◌, ◌∷◌, List, ℕ, true, false, Opti
 use Rattle.std.specs.Option.{option_copied}
 use Rattle.std.specs.Str.{bytes_eq}
 use Rattle.std.proofs.lemmas.Bool.{not-false, not-true}
-use Rattle.pop_lines.specs.Lines.{pieces}
+use Rattle.base_lines.specs.Lines.{pieces}
 use Rattle.pop_words.specs.Vars.{vars_of, Named, AreVariables}
 use Rattle.pop_words.specs.WordsBehind.{words_behind, NamedBehind}
 use Rattle.pop_io.specs.declared.failure.Failure.{Failure}

@@ -6,7 +6,7 @@ use Rattle.pop_io.specs.declared.names.TheConstants.{VARIABLE_LIMIT}
 use Rattle.pres_ast.specs.declared.limits.TheConstants.{COEFFICIENT_LIMIT, PRODUCT_LIMIT}
 use Rattle.pres_ast.proofs.Sums.{sum_step}
 use Rattle.pres_ast.proofs.value.sum.Goals as goal
-use Rattle.list_laws.proofs.Numbers.{size-add}
+use Rattle.base_laws.proofs.Numbers.{size-add}
 
 coef_fits : (a : ℤ) → nat_abs a ≤ COEFFICIENT_LIMIT → SFits w64 a
 coef_fits a small = fits_signed_from_abs w64 a (omega arith)

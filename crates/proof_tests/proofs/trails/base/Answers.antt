@@ -1,5 +1,5 @@
 use Rattle.std.specs.Prelude.{true}
-use Rattle.tree_faults.proofs.Ordered.{base_ordered, all_of}
+use Rattle.cert_tree.proofs.Ordered.{base_ordered, all_of}
 use Rattle.proof_tests.proofs.trails.base.Goals as goal
 
 pub returns-in-Ok : goal.returns-in-Ok

@@ -3,10 +3,10 @@ use Rattle.pres_ast.specs.PredicateValue.{predicate_value}
 use Rattle.pop_leaf.specs.NetModel.{NetModel, CrowdModel}
 use Rattle.pop_net.specs.Lanes.{crowd_of}
 use Rattle.pop_leaf.specs.InputCrowd.{input_crowd}
-use Rattle.pair_runs.specs.Run.{IsRun}
-use Rattle.journal_text.specs.Journal.{text_of}
-use Rattle.journal_text.specs.declared.last.Last.{Last}
-use Rattle.journal_text.specs.declared.last.Last.TheVariants.{Verdict}
+use Rattle.run_picks.specs.Run.{IsRun}
+use Rattle.run_text.specs.Journal.{text_of}
+use Rattle.run_text.specs.declared.last.Last.{Last}
+use Rattle.run_text.specs.declared.last.Last.TheVariants.{Verdict}
 use Rattle.pop_demo.specs.DemoCase.{demo_tree, demo_counts, demo_spec}
 use Rattle.tool_texts.specs.declared.output.Output.{Output}
 use Rattle.tool_texts.specs.declared.output.Ending.{Ending}

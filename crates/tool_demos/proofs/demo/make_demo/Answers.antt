@@ -3,7 +3,7 @@ use Rattle.std.proofs.lemmas.List.{length-map}
 use Rattle.pop_leaf.specs.NetModel.{CrowdModel}
 use Rattle.pop_net.specs.Lanes.{crowd_of, tuple_of}
 use Rattle.run_spec.specs.declared.spec.RunSpec.{RunSpec}
-use Rattle.pair_runs.specs.Run.{IsRun}
+use Rattle.run_picks.specs.Run.{IsRun}
 use Rattle.tool_bundles.proofs.InputSize.{length-input_crowd}
 use Rattle.tool_demos.proofs.Changed.{run_small}
 use Rattle.tool_courses.proofs.Ends.{run_last}

@@ -29,6 +29,7 @@ returns-in-Ok-clause-compiled c =
       };
       single = built.single;
       right = built.right;
+      tame = built.tame;
     }
 
 pub returns-in-Err-Fault-clause-fits : goal.returns-in-Err-Fault-clause-fits

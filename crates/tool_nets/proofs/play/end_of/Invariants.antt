@@ -1,5 +1,5 @@
 use Rattle.std.proofs.Common.{◌≡◌, length}
-use Rattle.pop_lines.specs.Lines.{lines_of}
+use Rattle.base_lines.specs.Lines.{lines_of}
 use Rattle.pop_net.specs.Lanes.{crowd_of, AreValid}
 use Rattle.tool_nets.specs.declared.play.TheConstants.{MEETINGS_LINE}
 use Rattle.tool_nets.specs.Play.{on_from}

@@ -1,5 +1,5 @@
 use Rattle.std.proofs.Common.{ℕ, List, length, ap, ◌∙◌, arith}
-use Rattle.pop_lines.specs.Lines.{lines_of}
+use Rattle.base_lines.specs.Lines.{lines_of}
 use Rattle.pop_net.specs.Lanes.{crowd_of}
 use Rattle.tool_nets.specs.Play.{paired}
 use Rattle.tool_nets.proofs.Played.{one_line}

@@ -1,11 +1,11 @@
 use Rattle.std.proofs.Common.{◌≡◌, ℕ, List, Result, Ok, Err, refl, sym, subst, rules}
-use Rattle.pop_lines.specs.Lines.{lines_of}
+use Rattle.base_lines.specs.Lines.{lines_of}
 use Rattle.tool_texts.specs.declared.refusal.Refusal.{Refusal}
 use Rattle.tool_texts.specs.declared.output.Output.{Output}
 use Rattle.tool_texts.specs.Steps.{After, MayStop}
 use Rattle.tool_texts.proofs.Goes.{obeys_wider, may_stop}
-use Rattle.tool_bundles.specs.StableBundles.{IsAnyBundleOf}
-use Rattle.tool_proofs.specs.Check.{OfAnyBundle, OfLine, CheckGives}
+use Rattle.tool_bundles.specs.Bundles.{IsBundleOf}
+use Rattle.tool_proofs.specs.Check.{OfBundle, OfLine, CheckGives}
 use Rattle.tool_proofs.proofs.check.check_input.Goals as goal
 
 -- what is given for the one line is given for the lines
@@ -14,12 +14,12 @@ for_line line step given is of = subst (λ (r : Result (List ℕ) Refusal). Afte
 
 pub returns : goal.returns
 returns c =
-    obeys_wider (OfAnyBundle c.in_ok-bundle.bundle) (CheckGives (lines_of c.args.input.now))
-    (λ given of. for_line _ _ given c.in_ok-line.ensures (Ok c.in_ok-bundle.bundle, c.in_ok-bundle.ensures.bundle, of)) _ c.judge_any.result c.judge_any.ensures
+    obeys_wider (OfBundle c.in_ok-bundle.bundle) (CheckGives (lines_of c.args.input.now))
+    (λ given of. for_line _ _ given c.in_ok-line.ensures (Ok c.in_ok-bundle.bundle, c.in_ok-bundle.ensures.bundle, of)) _ c.judge.result c.judge.ensures
 
 pub returns-in_err-bundle : goal.returns-in_err-bundle
 returns-in_err-bundle c =
     let stopped : MayStop (CheckGives (lines_of c.args.input.now)) c.in_err-bundle.field-0.0 =
-    may_stop (IsAnyBundleOf c.in_ok-line.line.now) (CheckGives (lines_of c.args.input.now))
+    may_stop (IsBundleOf c.in_ok-line.line.now) (CheckGives (lines_of c.args.input.now))
     (λ r is. for_line _ _ (Err r) c.in_ok-line.ensures (Err r, is, refl)) _ c.in_err-bundle.ensures.bundle in
     search rules

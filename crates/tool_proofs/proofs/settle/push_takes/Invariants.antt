@@ -1,5 +1,5 @@
 use Rattle.std.proofs.Common.{◌≡◌, ◌++◌, map, take}
-use Rattle.journal_text.specs.Journal.{text_of}
+use Rattle.run_text.specs.Journal.{text_of}
 use Rattle.tool_proofs.specs.Settle.{take_line}
 use Rattle.tool_proofs.proofs.settle.push_takes.Given as goal
 

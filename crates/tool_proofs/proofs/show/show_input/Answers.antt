@@ -1,5 +1,5 @@
 use Rattle.std.proofs.Common.{◌≡◌, ℕ, List, Result, Ok, Err, refl, sym, subst, rules}
-use Rattle.pop_lines.specs.Lines.{lines_of}
+use Rattle.base_lines.specs.Lines.{lines_of}
 use Rattle.tool_texts.specs.declared.refusal.Refusal.{Refusal}
 use Rattle.tool_texts.specs.declared.output.Output.{Output}
 use Rattle.tool_texts.specs.Steps.{After, MayStop}

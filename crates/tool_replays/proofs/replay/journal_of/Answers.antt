@@ -1,11 +1,11 @@
 use Rattle.std.proofs.Common.{◌≡◌, ℕ, List, Result, Ok, Err, sym, ap, ◌∙◌}
 use Rattle.pop_io.specs.declared.failure.Failure.TheVariants.{Fault}
-use Rattle.pop_lines.specs.Lines.{lines_of}
+use Rattle.base_lines.specs.Lines.{lines_of}
 use Rattle.run_spec.specs.declared.kind.RunKind.{RunKind}
 use Rattle.run_spec.specs.declared.spec.RunSpec.{RunSpec}
 use Rattle.pop_journal.specs.declared.journal.Journal.{Journal}
-use Rattle.journal_text.specs.declared.fault.JournalFault.{JournalFault}
-use Rattle.journal_text.specs.declared.fault.JournalFault.TheVariants as fault
+use Rattle.run_text.specs.declared.fault.JournalFault.{JournalFault}
+use Rattle.run_text.specs.declared.fault.JournalFault.TheVariants as fault
 use Rattle.pop_journal.specs.Form.{Parts, Out, journal_in}
 use Rattle.pop_journal.specs.ReadLines.{ReadsJournal}
 use Rattle.tool_texts.specs.declared.refusal.Refusal.{Refusal}

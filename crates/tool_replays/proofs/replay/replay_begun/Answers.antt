@@ -1,5 +1,5 @@
 use Rattle.std.proofs.Common.{◌≡◌, Ok, Some, None, Result, refl, ap, subst, ◌∙◌}
-use Rattle.pop_lines.specs.Lines.{lines_of}
+use Rattle.base_lines.specs.Lines.{lines_of}
 use Rattle.pop_leaf.specs.NetModel.{CrowdModel}
 use Rattle.pop_leaf.specs.InputCrowd.{input_crowd}
 use Rattle.pop_net.specs.Lanes.{crowd_of}
@@ -34,5 +34,5 @@ pub returns-in-Err-Fault : goal.returns-in-Err-Fault
 returns-in-Err-Fault c = (
   Some c.in-Err-Fault.rejected,
   rw c.in-Err-Fault.field-0-is at c.in-Err-Fault.ensures.fault,
-  ap (λ (o : Output). (let made : Result Output Refusal = Ok o in made)) (rw c.in-Err-Fault.rejected-is at c.in_ok-stable_rejection_output-in-Err-Fault.ensures),
+  ap (λ (o : Output). (let made : Result Output Refusal = Ok o in made)) (rw c.in-Err-Fault.rejected-is at c.in_ok-rejection_output-in-Err-Fault.ensures),
 )

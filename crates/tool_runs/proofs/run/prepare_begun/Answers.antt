@@ -1,5 +1,5 @@
 use Rattle.std.proofs.Common.{Ok, Some, None, ◌++◌, refl, subst}
-use Rattle.pop_lines.specs.Lines.{ended}
+use Rattle.base_lines.specs.Lines.{ended}
 use Rattle.tool_courses.specs.Course.{Course}
 use Rattle.tool_courses.specs.RunOutput.{IsRunOutput}
 use Rattle.tool_runs.specs.Run.{OfBegun}
@@ -28,6 +28,6 @@ returns-in-Ok-clause-plain c = λ whole one. pending_plain _ c.in_ok-run-in-Ok.r
 
 pub returns-in-Err-Fault-clause-leads : goal.returns-in-Err-Fault-clause-leads
 returns-in-Err-Fault-clause-leads c =
-    let output = c.in_ok-stable_rejection_output-in-Err-Fault.field-0 in
+    let output = c.in_ok-rejection_output-in-Err-Fault.field-0 in
     text_leads (λ o. OfBegun c.args.kind c.args.spec (ended c.args.lines.0.now ++ ended c.args.lines.1.now) (c.args.bundle, c.args.start.counts) (Ok o)) output
-    (Some c.in-Err-Fault.rejected, output, rw c.in-Err-Fault.field-0-is at c.in-Err-Fault.ensures.fault, rw c.in-Err-Fault.rejected-is at c.in_ok-stable_rejection_output-in-Err-Fault.ensures, refl)
+    (Some c.in-Err-Fault.rejected, output, rw c.in-Err-Fault.field-0-is at c.in-Err-Fault.ensures.fault, rw c.in-Err-Fault.rejected-is at c.in_ok-rejection_output-in-Err-Fault.ensures, refl)

@@ -1,4 +1,4 @@
-use Rattle.pop_lines.specs.Lines.{lines_of}
+use Rattle.base_lines.specs.Lines.{lines_of}
 use Rattle.tool_texts.proofs.Lined.{not_one}
 use Rattle.tool_texts.proofs.lines.just_one_line.Goals as goal
 

@@ -1,4 +1,4 @@
-use Rattle.pop_lines.specs.Lines.{lines_of}
+use Rattle.base_lines.specs.Lines.{lines_of}
 use Rattle.tool_texts.proofs.Lined.{not_three}
 use Rattle.tool_texts.proofs.lines.just_three_lines.Goals as goal
 

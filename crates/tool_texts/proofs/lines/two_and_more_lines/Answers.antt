@@ -1,4 +1,4 @@
-use Rattle.pop_lines.specs.Lines.{lines_of}
+use Rattle.base_lines.specs.Lines.{lines_of}
 use Rattle.tool_texts.proofs.Short.{more_few}
 use Rattle.tool_texts.proofs.Lined.{two_missing}
 use Rattle.tool_texts.proofs.lines.two_and_more_lines.Goals as goal

@@ -1,7 +1,7 @@
 use Rattle.std.proofs.Common.{◌≡◌, ◌+◌, ◌-◌, ◌≤◌, true, false, length, ap, sym, subst, ◌∙◌, arith}
 use Rattle.std.specs.Prelude.{nat_eq}
 use Rattle.cert_base.specs.FactsAndCases.{before_entry}
-use Rattle.tree_faults.specs.Refusals.{all_fit}
+use Rattle.cert_tree.specs.Refusals.{all_fit}
 use Rattle.cert_tree.specs.Rooms.{depth_in, Opens}
 use Rattle.cert_tree.proofs.Entries.{room_within, opened_sound, has_entered}
 use Rattle.cert_tree.proofs.walk.Walk.enter.Goals as goal

@@ -4,7 +4,7 @@ use Rattle.cert_tree.specs.declared.walk.Walk.{Walk}
 use Rattle.cert_tree.specs.Walks.{waiting, StandsAt}
 use Rattle.cert_tree.proofs.Passages.{passed_sound}
 use Rattle.cert_tree.proofs.Visits.{visit_ends, visit_fails}
-use Rattle.tree_faults.proofs.Refused.{refused_at}
+use Rattle.cert_tree.proofs.Refused.{refused_at}
 use Rattle.cert_tree.proofs.walk.Walk.visit.Goals as goal
 
 pub pass-requires-clause-low : goal.pass-requires-clause-low

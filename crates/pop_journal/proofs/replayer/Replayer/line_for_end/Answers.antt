@@ -1,7 +1,7 @@
 use Rattle.std.proofs.Common.{◌≡◌, ℕ, true, List, sym, ap, subst, ◌∙◌}
 use Rattle.std.specs.Prelude.{Option, Some}
 use Rattle.pop_crowd.specs.Replay.{replay}
-use Rattle.journal_text.specs.Ending.{ending_until, last_is_undecided}
+use Rattle.run_text.specs.Ending.{ending_until, last_is_undecided}
 use Rattle.pop_journal.specs.Expected.{line_at_end}
 use Rattle.pop_journal.specs.Standing.{IsForEnd}
 use Rattle.pop_journal.proofs.AtEnd.{meeting_due}

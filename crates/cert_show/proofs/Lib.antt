@@ -1,0 +1,9 @@
+pub mod Pieces
+pub mod Spans
+pub mod Quoted
+pub mod Words
+pub mod LinesTell
+pub mod SameLeaf
+pub mod SameParts
+pub mod SameShown
+pub mod Unbroken

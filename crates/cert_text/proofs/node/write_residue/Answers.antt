@@ -1,0 +1,14 @@
+use Rattle.std.proofs.Common.{map, codes, decimal}
+use Rattle.json.specs.Print.{escape_byte}
+use Rattle.serde_json.specs.Written.{compact_text}
+use Rattle.net_json.specs.Written.{list_data}
+use Rattle.cert_json.specs.Written.{term_data}
+use Rattle.cert_text.proofs.Behind.{five}
+use Rattle.cert_text.proofs.node.write_residue.Goals as goal
+
+pub returns : goal.returns
+unfolding escape_byte
+returns c =
+    five c.args.out.now.items c.push_text.new.out.items c.push_number.new.out.items c.push_text-2.new.out.items c.write_list.new.out.items c.push_text-3.new.out.items
+    (codes "[\"residue\",") (decimal c.args.modulus) (codes ",") (compact_text (list_data (map term_data c.args.terms.now))) (codes "]")
+    c.in_ok-push_text.ensures (rw c.from.ensures at c.in_ok-push_number.ensures.ok) c.in_ok-push_text-2.ensures c.in_ok-write_list.ensures c.in_ok-push_text-3.ensures

@@ -1,5 +1,0 @@
-use Rattle.std.proofs.Common.{rules}
-use Rattle.comp_flock.proofs.multipliers.first.Goals as goal
-
-pub returns : goal.returns
-returns c = search rules

@@ -1,6 +1,0 @@
-use Rattle.std.proofs.Common.{◌≡◌, length}
-use Rattle.comp_prefix.specs.PrefixLeaf.{prefixes}
-use Rattle.comp_prefix.proofs.worths.count_prefixes.Given as goal
-
-abbrev pub invariant-loop-i : goal.invariant-loop-i
-invariant-loop-i l = l.ones ≡ length (prefixes l.enough l.i)

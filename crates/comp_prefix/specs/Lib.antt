@@ -1,3 +1,0 @@
-pub mod PrefixLeaf
-pub mod PrefixProof
-pub mod PrefixLaw

@@ -1,5 +1,0 @@
-use Rattle.goal_checker.proofs.StableSound.{stable_sound}
-use Rattle.goal_checker.proofs.law.valid_is_stably_right.Goals as goal
-
-pub returns : goal.returns
-returns c = stable_sound

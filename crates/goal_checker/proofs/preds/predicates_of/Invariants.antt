@@ -1,6 +1,0 @@
-use Rattle.std.proofs.Common.{◌≡◌, map, take}
-use Rattle.goal_checker.specs.ValidStable.{predicate_alone}
-use Rattle.goal_checker.proofs.preds.predicates_of.Given as goal
-
-abbrev pub invariant-loop-part : goal.invariant-loop-part
-invariant-loop-part l = l.leaves.items ≡ map predicate_alone (take l.part-index l.proof.leaves)

@@ -1,4 +1,0 @@
-pub mod ValidStable
-pub mod Rejections
-pub mod StableSound
-pub mod ChecksStable

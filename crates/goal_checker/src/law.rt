@@ -1,9 +1,0 @@
-//! The law of valid proofs with goals.
-
-ghost use Rattle.goal_checker.specs.StableSound.{IsStablySound};
-
-/// A valid proof of a well-formed net, with leaf predicates over its variables, shows that the net stably computes the
-/// predicate (Angluin and others 2006). A theorem; the body is empty.
-pub fn valid_is_stably_right()
-    ensures { IsStablySound }
-{}

@@ -1,4 +1,0 @@
-use Rattle.goal_json.proofs.part.parts_of.Goals as goal
-
-pub returns : goal.returns
-returns c = c.each_in.ensures.items

@@ -1,6 +1,0 @@
-mod ChosenLayers
-mod Takes
-mod Dead
-pub mod Rests
-mod Bounds
-mod Given

@@ -1,2 +1,0 @@
-pub mod SettlesGoals
-pub mod Laws

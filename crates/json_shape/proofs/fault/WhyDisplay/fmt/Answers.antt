@@ -1,5 +1,0 @@
-use Rattle.std.proofs.Common.{rules}
-use Rattle.json_shape.proofs.fault.WhyDisplay.fmt.Goals as goal
-
-pub returns-in-Shape-clause-writes : goal.returns-in-Shape-clause-writes
-returns-in-Shape-clause-writes c = search rules

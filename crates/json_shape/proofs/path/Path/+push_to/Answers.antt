@@ -1,6 +1,0 @@
-use Rattle.std.proofs.Common.{arith}
-use Rattle.std.proofs.lemmas.Grind.{common_steps}
-use Rattle.json_shape.proofs.path.Path.+push_to.Goals as goal
-
-pub returns-in_ok-push_str-in-Item : goal.returns-in_ok-push_str-in-Item
-returns-in_ok-push_str-in-Item c = grind (arith, common_steps)

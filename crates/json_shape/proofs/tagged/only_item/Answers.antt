@@ -1,8 +1,0 @@
-use Rattle.std.proofs.Common.{arith}
-use Rattle.json_shape.specs.Shapes.{one_after}
-use Rattle.std.proofs.lemmas.Grind.{common_steps}
-use Rattle.json_shape.proofs.tagged.only_item.Goals as goal
-
-pub returns : goal.returns
-unfolding one_after
-returns c = grind (arith, common_steps)

@@ -1,0 +1,4 @@
+pub mod Halves
+pub mod Pairs
+pub mod Rows
+pub mod Shares

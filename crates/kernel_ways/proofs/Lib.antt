@@ -1,0 +1,2 @@
+pub mod Tosses
+pub mod Steps

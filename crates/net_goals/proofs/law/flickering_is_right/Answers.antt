@@ -1,5 +1,0 @@
-use Rattle.net_goals.proofs.Flickers.{flickers}
-use Rattle.net_goals.proofs.law.flickering_is_right.Goals as goal
-
-pub returns : goal.returns
-returns c = flickers

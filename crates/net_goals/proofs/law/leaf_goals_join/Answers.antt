@@ -1,5 +1,0 @@
-use Rattle.net_goals.proofs.Right.{join_right}
-use Rattle.net_goals.proofs.law.leaf_goals_join.Goals as goal
-
-pub returns : goal.returns
-returns g c = join_right g.G.LeafGoals.has

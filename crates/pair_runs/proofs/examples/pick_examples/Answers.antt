@@ -1,6 +1,0 @@
-use Rattle.pair_runs.proofs.FirstPicks.{state_zero, word_zero, picks_of_two, picks_of_three}
-use Rattle.pair_runs.proofs.examples.pick_examples.Goals as goal
-
-pub returns : goal.returns
-returns c =
-    record { state = state_zero; first_word = word_zero; of_two = picks_of_two; of_three = picks_of_three }

@@ -1,5 +1,0 @@
-use Rattle.pop_fair.proofs.Extends.{finite_extend}
-use Rattle.pop_fair.proofs.law.finite_executions_extend.Goals as goal
-
-pub returns : goal.returns
-returns c = finite_extend

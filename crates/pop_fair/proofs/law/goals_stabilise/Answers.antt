@@ -1,5 +1,0 @@
-use Rattle.pop_fair.proofs.Goals.{goals_are_stable}
-use Rattle.pop_fair.proofs.law.goals_stabilise.Goals as goal
-
-pub returns : goal.returns
-returns g c = goals_are_stable g.G.Goal.has

@@ -1,6 +1,0 @@
-use Rattle.std.proofs.Common.{take}
-use Rattle.pop_hushed.specs.Marks.{AreMarks}
-use Rattle.pop_hushed.proofs.marks.marks_of.Given as goal
-
-abbrev pub invariant-loop-number : goal.invariant-loop-number
-invariant-loop-number l = AreMarks l.count (take l.number-index l.kept) l.marks.items

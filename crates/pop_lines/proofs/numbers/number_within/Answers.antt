@@ -1,5 +1,0 @@
-use Rattle.std.proofs.Common.{rules}
-use Rattle.pop_lines.proofs.numbers.number_within.Goals as goal
-
-pub returns-else-from-value : goal.returns-else-from-value
-returns-else-from-value c = search rules

@@ -1,5 +1,0 @@
-use Rattle.std.proofs.Common.{rules}
-use Rattle.pop_lines.proofs.walks.two_lines_and_more.Goals as goal
-
-pub returns-in-None : goal.returns-in-None
-returns-in-None c = search rules

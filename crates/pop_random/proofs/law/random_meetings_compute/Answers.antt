@@ -1,5 +1,0 @@
-use Rattle.pop_random.proofs.AlmostSurely.{compute}
-use Rattle.pop_random.proofs.law.random_meetings_compute.Goals as goal
-
-pub returns : goal.returns
-returns c = compute

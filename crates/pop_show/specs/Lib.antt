@@ -1,4 +1,0 @@
-pub mod Lines
-pub mod LeafLines
-pub mod Shown
-pub mod Showable

@@ -1,0 +1,14 @@
+pub mod CrowdSize
+pub mod Picks
+pub mod UniformPicks
+pub mod NextMeeting
+pub mod Run
+pub mod WatchedRun
+pub mod Played
+pub mod Ends
+pub mod Examples
+pub mod OneRun
+pub mod Turns
+pub mod TakenRun
+pub mod Kept
+pub mod SameLanes

@@ -1,0 +1,9 @@
+pub mod Recurrence
+pub mod Low
+pub mod Reached
+pub mod Stable
+pub mod Standing
+pub mod Synchronous
+pub mod Extends
+pub mod Goals
+pub mod Found

@@ -1,5 +1,0 @@
-pub mod Format
-pub mod Refusals
-pub mod Halts
-pub mod NoEnds
-pub mod RefusalLaw

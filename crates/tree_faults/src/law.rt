@@ -1,8 +1,0 @@
-//! Laws of the definitions.
-
-ghost use Rattle.tree_faults.specs.RefusalLaw.{RefusalLaw};
-
-/// A tree closes the base facts exactly when none of its nodes is refused. A theorem; the body is empty.
-pub fn refusal_law()
-    ensures { RefusalLaw }
-{}
