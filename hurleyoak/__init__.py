@@ -49,6 +49,11 @@ _LIBRARY = (
 __all__ = [*_LIBRARY, "InputFault", "compile", "simulate"]
 
 
+def __dir__() -> list[str]:
+    """The library's names, for completion."""
+    return sorted(__all__)
+
+
 def __getattr__(name: str) -> Any:
     if name == "InputFault":
         return import_module(".faults", __name__).InputFault

@@ -12,6 +12,7 @@ if __package__ in (None, ""):
 
 from hurleyoak.cli.commands import main  # noqa: E402
 from hurleyoak.streams import STANDARD_OUTPUT, open_streams  # noqa: E402
+from hurleyoak.visible import one_line  # noqa: E402
 
 TERMINATED = 128 + signal.SIGTERM
 
@@ -27,7 +28,7 @@ def start() -> int:
     except OSError as error:
         os.dup2(os.open(os.devnull, os.O_WRONLY), STANDARD_OUTPUT)
         if error.filename is not None:
-            return ended(7, f"{os.fsdecode(error.filename)}: {error.strerror}")
+            return ended(7, f"{one_line(os.fsdecode(error.filename))}: {error.strerror}")
         return ended(7, f"writing failed: {error.strerror}; what was printed is cut off")
     except MemoryError:
         return ended(8, "out of memory")

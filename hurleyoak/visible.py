@@ -1,4 +1,5 @@
-"""The one filter for what is shown: nothing that was quoted from a file, a word or a name steers the terminal."""
+"""The filters for what is shown: nothing that was quoted from a file, a word or a name steers the terminal, nor begins
+a line of its own."""
 from __future__ import annotations
 
 import re
@@ -13,6 +14,11 @@ _HIDDEN = re.compile(
 def visible(text: str) -> str:
     """The text with each character that would steer the terminal written by its number, as `\\x1b`."""
     return _HIDDEN.sub(_numbered, text)
+
+
+def one_line(text: str) -> str:
+    """The same, without line feeds and tabs too: what is quoted from outside, as a file's name, begins no line."""
+    return visible(text).replace("\n", "\\x0a").replace("\t", "\\x09")
 
 
 def _numbered(match: re.Match[str]) -> str:

@@ -199,9 +199,12 @@ class Rests:
                 left += [below for below in self.direct[key] if below[2] not in but]
         return seen
 
-    def unlisted(self, listed: set[Key], but: frozenset[str] = frozenset()) -> set[Key]:
-        """What a listed definition names and the list has not."""
-        return {key for user in listed for key in self.named[user] if key not in listed and key[2] not in but}
+    def unlisted(
+        self, listed: set[Key], but: frozenset[str] = frozenset(), above: frozenset[Key] = frozenset()
+    ) -> set[Key]:
+        """What a listed definition names, and neither the list nor those above it have."""
+        named = {key for user in listed for key in self.named[user] if key[2] not in but}
+        return named - listed - above
 
     def lines(self, keys: Iterable[Key]) -> int:
         return sum(len(self.known[key].text) for key in keys)

@@ -43,7 +43,7 @@ WANTED = {
 CONSTANT = re.compile(r"((?:^/// .*\n)+)^pub const ([A-Z_]+): \w+ = ([0-9_]+(?: << [0-9]+)?);", re.MULTILINE)
 PAGE = TOP / "docs" / "reference" / "limits.md"
 # the crates whose limits stand on the page alone
-TOLD = ("cert_goals", "pop_settle", "pair_runs", "comp_threshold", "comp_net", "comp_counting")
+TOLD = ("cert_layers", "cert_goals", "pop_settle", "run_picks", "comp_threshold", "comp_net", "comp_counting")
 LIMIT = ("The greatest", "The most", "The fewest", "How many")
 HEAD = """# Limits
 

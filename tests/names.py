@@ -1,6 +1,6 @@
 #!/usr/bin/python3
-"""Names that nothing uses: lemmas and definitions that stand nowhere else, and names of `ghost use` that a scope
-lacks.
+"""Names that nothing uses: lemmas and definitions that stand nowhere else, names of `ghost use` that a scope lacks,
+names that a crate hands on from another one and nobody takes from it, and public functions that only tests call.
 
 Run it at the top of the repository; with folders of crates it looks at these alone. It prints a line for each name,
 and ends with the status 1 where there is one."""
@@ -18,6 +18,28 @@ GHOST_USE = re.compile(r"^( *)ghost use [\w.'+-]+\.\{([^}]*)\};")
 DECLARED = re.compile(r"^( *)((?:abbrev |unfoldable |pub |record |data )*)([^\s:(){}.]+)(?= :| [({])")
 PLACED = re.compile(r"^( *)([^\s:(){}.]+) ")
 WORDS = {"use", "mod", "module", "where", "let", "in", "case", "unfolding", "syntax", "ruleset"}
+USE = re.compile(r"^ *(pub )?use (\w+)((?:::\w+)*)(?:::\{([^}]*)\})?;", re.MULTILINE)
+PATH = re.compile(r"\b(\w+)::(\w+)")
+WORD = re.compile(r"\w+")
+FUNCTION = re.compile(r"^ *pub (?:unsafe )?fn (\w+)")
+IS_LAW = re.compile(r"\{\}$")
+
+# Crates of tests alone, which no program stands on.
+TEST_CRATES = re.compile(r"\w+_tests|sample_nets")
+
+# What the design names as a crate's public surface, whoever uses it.
+KEPT = {
+    "agent_field": {"close"},
+    "cert_json": {"read_proof"},
+    "cert_linear": {"linear_closes", "residue_closes"},
+    "cert_tree": {"TreeFault", "TreeWhy"},
+    "comp_net": {"compile_flocks"},
+    "net_json": {"FormatFault", "PredWhy", "Why"},
+    "pair_workers": {"Picker", "RunEnd", "run_all", "run_alone", "run_round"},
+    "pop_journal": {"JournalWhy", "Last", "write_journal"},
+    "pop_net": {"LeafFault"},
+    "pop_tool": {"run_calm"},
+}
 
 
 @dataclass
@@ -178,9 +200,88 @@ def unused_imports(crates: list[Path]) -> Iterator[Unused]:
                     yield Unused(path, number + 1, "the source doesn't use", name)
 
 
+# ---- names that a crate hands on, and public functions
+
+
+def is_of_tests(crate: str) -> bool:
+    return TEST_CRATES.fullmatch(crate) is not None
+
+
+def uses(text: str) -> Iterator[tuple[bool, str, str]]:
+    """The names that a source takes by `use`: whether it hands them on, from which crate, and the name."""
+    for match in USE.finditer(text):
+        names = [name for name, _ in imported(match[4])] if match[4] else [match[3].rpartition("::")[2]]
+        for name in names:
+            yield bool(match[1]), match[2], name
+
+
+def taken_from(crates: list[Path]) -> set[tuple[str, str]]:
+    """A crate and a name that the sources of another one take from it."""
+    found: set[tuple[str, str]] = set()
+    for path in sources(crates, ".rt"):
+        text = without_comments(path.read_text())
+        found.update((crate, name) for _, crate, name in uses(text))
+        found.update((match[1], match[2]) for match in PATH.finditer(text))
+    return found
+
+
+def without_comments(text: str) -> str:
+    return "\n".join(without_comment(line, "//") for line in text.split("\n"))
+
+
+def unused_hands(crates: list[Path]) -> Iterator[Unused]:
+    names = {crate.name for crate in every_crate()}
+    taken = taken_from([crate for crate in every_crate() if not is_of_tests(crate.name)])
+    for path in (crate / "src" / "lib.rt" for crate in crates if (crate / "src" / "lib.rt").exists()):
+        text = path.read_text()
+        here = path.parts[-3]
+        for is_public, crate, name in uses(text):
+            handed = is_public and crate in names and (here, name) not in taken
+            if handed and name not in KEPT.get(here, set()):
+                yield Unused(path, line_of(text, name), f"nobody takes from {here}", name)
+
+
+def line_of(text: str, name: str) -> int:
+    """The line of the first `pub use` behind which a name stands."""
+    found = re.search(rf"^pub use [^;]*\b{name}\b", text, re.MULTILINE)
+    return text.count("\n", 0, found.end()) + 1 if found else 1
+
+
+def calls(text: str) -> set[str]:
+    """The words of a source, but for those of its comments, its imports and the heads of its functions."""
+    body = USE.sub("", without_comments(text))
+    return set(
+        WORD.findall("\n".join(line for line in re.sub(r"\bfn \w+", "", body).split("\n") if "ghost" not in line))
+    )
+
+
+def is_law(lines: list[str], number: int) -> bool:
+    """Whether a function has no body: its contract is a theorem."""
+    for line in lines[number:]:
+        if line.rstrip().endswith("{}"):
+            return True
+        if line.lstrip().startswith("{") or line.rstrip().endswith(" {"):
+            return False
+    return False
+
+
+def uncalled_functions(crates: list[Path]) -> Iterator[Unused]:
+    called: set[str] = set()
+    for path in sources([crate for crate in every_crate() if not is_of_tests(crate.name)], ".rt"):
+        called |= calls(path.read_text())
+    for path in sources([crate for crate in crates if not is_of_tests(crate.name)], ".rt"):
+        lines = path.read_text().split("\n")
+        here = path.parts[path.parts.index("src") - 1]
+        for number, line in enumerate(lines):
+            match = FUNCTION.match(line)
+            if not match or match[1] in called | KEPT.get(here, set()) or is_law(lines, number):
+                continue
+            yield Unused(path, number + 1, "only tests call", match[1])
+
+
 def main() -> int:
     crates = [Path(given) for given in sys.argv[1:]] or every_crate()
-    found = [*unused_declarations(crates), *unused_imports(crates)]
+    found = [*unused_declarations(crates), *unused_imports(crates), *unused_hands(crates), *uncalled_functions(crates)]
     for each in found:
         print(each)
     return 1 if found else 0

@@ -7,11 +7,12 @@ from __future__ import annotations
 
 import re
 import sys
-from collections.abc import Iterator
+import textwrap
+from collections.abc import Iterable, Iterator
 from dataclasses import dataclass
 from pathlib import Path
 
-from definitions import CRATES, Definition, Key, Rests, all_definitions, imports, names_in
+from definitions import CRATES, Definition, Field, Key, Rests, all_definitions, imports, names_in
 
 DOCUMENT = Path("docs/trust/theorems.md")
 DATA = re.compile(r"(?:[ ()ℕ]|List|Meeting|Take|Bundle|Last|Journal|RunSpec|PredModel|CrowdModel)+")
@@ -37,13 +38,13 @@ PROMISES = (
     ),
     (
         "the rounds are a run of the model; of `watch` the last may lack meetings where its end is terminal",
-        "run_all, run_watched, whole_runs_are_watched",
+        "run_all, whole_runs_are_watched",
     ),
     (
         "a meeting is one event of one history, whatever the schedule",
         "Field::meet, Field::close, each_moment_stands, plays_are_kinds",
     ),
-    ("the text of a run that was made before", "write_journal, push_journal"),
+    ("the text of a run that was made before", "write_journal"),
     ("a text is this journal, or this is its first malformed line", "read_journal"),
     ("a journal is that of a run, or this is its first line that isn't the expected one", "verify, verify_settled"),
     (
@@ -68,6 +69,10 @@ PROMISES = (
         ),
         "random_meetings_compute, falling_is_cubic, runs_are_uniform",
     ),
+    (
+        "each ordered pair of agents is the pick of equally many of the 2^64 words, up to an exact rest",
+        "picks_are_uniform",
+    ),
     ("a crowd's only settlement, within the proof's bound, and its last crowd is terminal", "settle, settlements_end"),
     (
         (
@@ -76,7 +81,7 @@ PROMISES = (
         ),
         "settle_goals, resting_net, settlements_rest",
     ),
-    ("a value is the file of this proof or bundle, or this is the first broken rule", "read_proof, read_bundle"),
+    ("a value is the file of this proof, or this is the first broken rule", "read_proof"),
     (
         "a leaf computes a threshold, a remainder, a flock, and its proof is valid",
         "threshold, remainder, flock, offset_flock, prefix_flock, powers",
@@ -93,15 +98,20 @@ PROMISES = (
     ("a text is read to this predicate, or this is the first fault; the grammar gives it this meaning", "read_pred"),
     (
         "a predicate has this net, with a valid proof, or this is why it has none",
-        "compile, compile_flocks, compile_succinct",
+        "compile_with, compile, compile_flocks",
     ),
     (
         "a bundle's line is read back to the bundle; what was compiled is certified",
         "bundles_are_read_back, compiled_is_certified",
     ),
     (
-        "what is shown of a certified bundle is its net, its predicate and its layers; all else is as `check` says it",
+        "what is shown of a bundle is its net, its predicate, its layers and goals; all else is as `check` says it",
         "push_shown, shown_is_checked",
+    ),
+    ("no two names, lists of states, moves or predicates are shown alike", "lines_tell"),
+    (
+        "one text of `show` has one net, one predicate, and one proof up to its trees and the numbers of equal moves",
+        "text_tells",
     ),
     ("the predicate's value", "Pred::eval"),
     (
@@ -114,39 +124,46 @@ PROMISES = (
     ("the words and the input have one answer, where nothing is left to threads or to the compiler", "one_answer"),
     ("valid input is answered over a source and a sink that never fail", "run_calm"),
 )
-LIBRARY_ALONE = {"run_all", "run_watched", "write_journal", "push_journal", "run_calm"}
+LIBRARY_ALONE = {"run_all", "write_journal", "run_calm"}
 TOP_CRATES = (
     "tool_texts",
     "tool_bundles",
     "tool_nets",
-    "tool_checks",
     "tool_rejections",
     "tool_proofs",
     "tool_courses",
     "tool_replays",
     "tool_runs",
-    "tool_makers",
     "tool_demos",
     "pop_tool",
     "pop_main",
 )
 BELOW_CHECK = (
-    ("pop_tool", "StableHeadline", "StableSays"),
-    ("pop_tool", "StableHeadline", "SettledSays"),
-    ("pop_tool", "StableHeadline", "StableRunSays"),
-    ("pop_tool", "StableHeadline", "IsStableHeldInput"),
+    ("pop_tool", "Told", "CheckTold"),
+    ("pop_tool", "Told", "ShowTold"),
+    ("pop_tool", "Headline", "StableSays"),
     ("pop_tool", "Runs", "IsLastLine"),
     ("pop_tool", "Runs", "IsAllowedRun"),
-    ("net_goals", "StablyRight", "IsStablyRight"),
+    ("theory_goals", "StablyRight", "IsStablyRight"),
     ("pop_checker", "Sound", "IsRight"),
     ("pop_checker", "Changes", "ChangesAtMost"),
-    ("pop_fair", "StablyComputes", "StablyComputes"),
-    ("pop_random", "ComputesAlmostSurely", "SettlesAlmostSurely"),
-    ("pop_random", "ComputesAlmostSurely", "SettlesInCubicTime"),
+    ("theory_fair", "StablyComputes", "StablyComputes"),
+    ("theory_random", "ComputesAlmostSurely", "SettlesAlmostSurely"),
+    ("theory_random", "ComputesAlmostSurely", "SettlesInCubicTime"),
 )
-PROOFS = frozenset({"ValidProof", "IsProofFile", "IsProofWithin"})
-GOALS = frozenset({"ValidStableProof", "IsPartFile", "IsStableProofWithin"})
-BOUNDS = frozenset({"ComputesAlmostSurely", "ComputesInCubicTime", "ChangesAtMost"})
+PROOFS = frozenset({"ValidProof", "ValidStableProof", "IsPartFile", "IsStableProofWithin"})
+BOUNDS = frozenset({"ComputesAlmostSurely", "ComputesInCubicTime", "ChangesAtMost", "AreTameEach"})
+COMPILED = frozenset({"net_with", "built_bound", "IsWritable", "bundle_line"})
+WORDS = frozenset({"meaning_of"})
+REASONS = frozenset({"refusal_text", "rejected_text"})
+WIDTH = 118  # of a document's lines
+ANSWERED = ("pop_tool", "Outcome", "IsAnswered")
+TOP_CALL = "run_tool"
+HEAD = ("pop_tool", "Headline", "Headline")
+# each names the next: from what `run_tool` ensures down to the fields that a list begins with
+WAY = (("pop_tool", "Call", "IsCall"), ("pop_tool", "Headline", "IsHeadline"), HEAD)
+STREAMS = (Path("crates/pop_io/src/outside.rt"), ("Source", "Sink"))
+EDGE = (Path("crates/pop_main/src/main.rt"), Path("crates/pop_io/src/standard.rt"))
 
 
 @dataclass
@@ -257,13 +274,89 @@ def crate_order() -> list[str]:
     ]
 
 
-def reading_list(title: str, told: str, keys: set[Key], rests: Rests, but: frozenset[str] = frozenset()) -> list[str]:
+def fields_of(names: tuple[str, ...], rests: Rests) -> list[Field]:
+    """The fields of `Headline` with these names. One that isn't there ends the script."""
+    found = {part.name: part for part in rests.known[HEAD].fields()}
+    if lacking := [name for name in names if name not in found]:
+        sys.exit(f"tests/theorems.py: `Headline` has no field {lacking}")
+    return [found[name] for name in names]
+
+
+def named_by(names: tuple[str, ...], rests: Rests) -> set[Key]:
+    """The definitions that these fields of `Headline` name."""
+    head = rests.known[HEAD]
+    named = (names_in(part.statement, head.uses, (head.crate, head.module)) for part in fields_of(names, rests))
+    return {key for keys in named for key in keys if key in rests.known}
+
+
+def broken_way(promised: set[Key], rests: Rests) -> str | None:
+    """Where the way from the call to `Headline` stops: the call doesn't ensure its first step, or a step doesn't name
+    the next."""
+    if WAY[0] not in promised:
+        return f"`{TOP_CALL}` does not ensure `{WAY[0][2]}`"
+    for above, below in zip(WAY, WAY[1:]):
+        if below not in rests.direct[above]:
+            return f"`{above[2]}` does not name `{below[2]}`"
+    return None
+
+
+def rust_block(path: Path, head: str) -> int:
+    """The lines of a Rust item from its head to its closing brace, without documentation and blank ones."""
+    lines = path.read_text().splitlines()
+    start = lines.index(head)
+    end = next(at for at in range(start, len(lines)) if lines[at] == "}")
+    return sum(1 for line in lines[start : end + 1] if line.strip() and not line.strip().startswith("///"))
+
+
+def wrapped(text: str) -> str:
+    return textwrap.fill(" ".join(text.split()), WIDTH, break_on_hyphens=False)
+
+
+def way_down(promised: set[Key], rests: Rests) -> list[str]:
+    """The steps from the call's contract to the fields of `Headline`, with which every list begins."""
+    if stop := broken_way(promised, rests):
+        sys.exit(f"tests/theorems.py: {stop}")
+    path, traits = STREAMS
+    told = f"""`{TOP_CALL}` ensures `{WAY[0][2]}`, and `{WAY[1][2]}` is a part of it. It speaks of a source that tells what
+        it has left, and of a sink that tells what it holds. Then `Headline` holds of the words, of these bytes, and of
+        the text that the sink gained. Each list begins with some fields of `Headline`, and names them. So these lines
+        come before each list, once:"""
+    out = ["## From the call to each list", "", wrapped(told), "", "| File | Lines | Definitions |", "|---|---|---|"]
+    lines = sum(rust_block(path, f"pub trait {name} {{") for name in traits)
+    out.append(f"| {path} | {lines} | {listed(traits)} |")
+    out += [f"| {rests.known[key].file} | {len(rests.known[key].text)} | `{key[2]}` |" for key in WAY[:-1]]
+    return [*out, ""]
+
+
+def edge() -> list[str]:
+    """What stands between the call and the operating system, and what no clause says of it."""
+    told = """The call is proved of any source and any sink. The program hands it the standard streams, and no contract
+        of the toolchain tells their content. So no clause says that the words are those of the command line, or that
+        the exit status is the call's. None says that the source gives the bytes of standard input, that the sink
+        writes the text and nothing else, or that `main` writes no line of its own. Read these files;
+        `tests/program.py` tries them."""
+    out = ["## To believe the edge", "", wrapped(told), "", "| File | Lines |", "|---|---|"]
+    for path in EDGE:
+        lines = [line.strip() for line in path.read_text().splitlines()]
+        out.append(f"| {path} | {sum(1 for line in lines if line and not line.startswith('//'))} |")
+    return [*out, ""]
+
+
+def reading_list(
+    title: str,
+    told: str,
+    keys: set[Key],
+    rests: Rests,
+    but: frozenset[str] = frozenset(),
+    above: frozenset[Key] = frozenset(),
+) -> list[str]:
     """The files in which the definitions stand, lowest crate first, with the lines that count. Each name that a listed
-    definition uses has to be listed or left out by name, and the list has to miss each of its definitions."""
-    if lacking := rests.unlisted(keys, but):
+    definition uses has to be listed, to stand above, or to be left out by name. And the list has to miss each of its
+    definitions."""
+    if lacking := rests.unlisted(keys, but, above):
         sys.exit(f"tests/theorems.py: '{title}' lacks {sorted(lacking)}")
     used = {below for key in keys for below in rests.direct[key]}
-    if unseen := {key for key in keys & used if not rests.unlisted(keys - {key}, but)}:
+    if unseen := {key for key in keys & used if not rests.unlisted(keys - {key}, but, above)}:
         sys.exit(f"tests/theorems.py: '{title}' could lose {sorted(unseen)}")
     order = {name: at for at, name in enumerate(reversed(crate_order()))}
     files: dict[tuple[int, str], list[Definition]] = {}
@@ -328,6 +421,10 @@ def promises(clauses: dict[str, list[Clause]]) -> list[str]:
     return [*out, ""]
 
 
+def listed(names: Iterable[str]) -> str:
+    return ", ".join(code(name) for name in names)
+
+
 def code(statement: str) -> str:
     return f"`{statement}`"
 
@@ -336,88 +433,139 @@ def cell(text: str) -> str:
     return text.replace("|", "\\|")
 
 
+INTRODUCTION = """\
+# Theorems
+
+Every clause that a public call promises: the headline first, then crate by crate downwards. Each row has what the
+clause says: its comment, or the clause with the comment of its definition. Then come its place, and how many lines
+of this repository's definitions it rests on. `tests/theorems.py --write` writes this file.
+
+Before that come the trusted definitions. `tests/theorems.py` stops if a listed definition uses one that isn't
+listed, or if no way leads to it from the call. `certified` is printed exactly for valid proofs, and a valid proof gives
+that the net computes the predicate. If you ask only what `certified` tells of a protocol, you need not read what a
+valid proof is. [The model](model.md) says the definitions in words, and [Reading](reading.md) how to read them. JSON's
+values are those of the kit's `serde_json` and `json`, some 370 lines. Lists, texts and numbers are those of its std.
+Neither is in a list. No list has the words of a command line (`meaning_of`): `check_is_meant` says that the word
+`check` alone means the command.
+"""
+
+
+@dataclass
+class Topic:
+    """A list of what one has to believe: which fields of `Headline` it begins with, and what it leaves out by name."""
+
+    title: str
+    told: str
+    fields: tuple[str, ...]
+    but: frozenset[str]
+    # a law that the list begins with, and with which it stands alone
+    law: Key | None = None
+
+
+TOPICS = (
+    Topic(
+        "To believe `certified`",
+        """The printed line, the status and the exit status (`code_of`), the file of a bundle, and what it means that
+        its net computes the predicate, for fair executions too. Left out are the bounds of the next list. Left out of all
+        lists are what a valid proof is and how its part of the file is written (`ValidProof`, `ValidStableProof`,
+        `IsPartFile`, `IsStableProofWithin`). So is how a refusal and a rejection are worded (`refusal_text`,
+        `rejected_text`): these begin with `fault: ` and `rejected `.""",
+        ("check", "only", "check_told"),
+        PROOFS | BOUNDS,
+    ),
+    Topic(
+        "To believe the bounds too",
+        """What more `certified` says of meetings of uniformly random pairs, and of runs by a proof with one layer for
+        each leaf.""",
+        ("check", "only"),
+        PROOFS,
+    ),
+    Topic(
+        "To believe `stable`",
+        """What is printed for a bundle in which some leaf has goals, and what it means that a net is stably right.""",
+        ("stable", "stable_only"),
+        PROOFS,
+    ),
+    Topic(
+        "To believe `show`",
+        "The lines that are printed below `certified` or `stable`: the net, the predicate, the layers and the goals.",
+        ("show", "shown", "show_told"),
+        PROOFS,
+    ),
+    Topic(
+        "To believe what `show` prints",
+        """Which net, predicate and proof have the printed lines, if you have the text and not the file. Neither JSON nor
+        the grammar of predicates is in this list. The law `text_tells` says that no other net or predicate has these
+        lines. Two proofs with these lines differ at most in their trees, and in which of several equal moves a layer
+        lists. By the field `shown` of `Headline` a text of `show` has the lines of a bundle with a valid proof, and its
+        net is right. What that means stands in the lists above.""",
+        (),
+        PROOFS,
+        ("cert_show", "TextTells", "TextTells"),
+    ),
+    Topic(
+        "To believe a run",
+        "The printed journal, the crowd at its end and the last line, of `run` and of `watch`.",
+        ("run", "watch", "run_told", "watch_told"),
+        PROOFS,
+    ),
+    Topic(
+        "To believe `replay`",
+        "For which journals `holds` is printed, and with which number.",
+        ("replay", "replay_watched", "replay_told", "replay_watched_told"),
+        PROOFS,
+    ),
+    Topic(
+        "To believe `settle`",
+        "The printed takes, the crowd at their end and the last line.",
+        ("settle", "settle_told"),
+        PROOFS,
+    ),
+    Topic(
+        "To believe `compile`",
+        """The printed bundle is of the predicate that was asked for, and its proof is valid. Left out are which net it
+        is, which number the bound is, and how it is written (`net_with`, `built_bound`, `IsWritable`, `bundle_line`):
+        the line is read back to this bundle.""",
+        ("compile", "flocks", "succinct", "compile_told", "flocks_told", "succinct_told"),
+        PROOFS | COMPILED,
+    ),
+)
+
+
+def topic_lists(rests: Rests) -> Iterator[str]:
+    """The lists of all topics, each without what stands in those above it."""
+    above = {ANSWERED, *WAY}
+    for topic in TOPICS:
+        but = topic.but | WORDS | REASONS
+        if topic.law:
+            told = f"{topic.told} It begins with `{topic.law[2]}`, and needs no other list."
+            yield from reading_list(topic.title, wrapped(told), rests.beneath([topic.law], but), rests, but)
+            continue
+        keys = rests.beneath(named_by(topic.fields, rests), but)
+        told = f"{topic.told} It begins with {listed(topic.fields)} of `Headline`"
+        told += ", and stands on the lists above." if above & keys else "."
+        yield from reading_list(topic.title, wrapped(told), keys - above, rests, but, frozenset(above))
+        above |= keys
+
+
 def document() -> str:
     rests = Rests(all_definitions())
     told = Told(rests)
-    certified = [("pop_tool", "Headline", name) for name in ("CheckSays", "IsBundleLine", "IsValidLine")]
-    answered = ("pop_tool", "Outcome", "IsAnswered")
-    narrow = rests.beneath([*certified, answered], PROOFS | BOUNDS)
-    wide = rests.beneath([*certified, answered], PROOFS)
-    lines = [("pop_tool", "StableHeadline", name) for name in ("StableSays", "IsStableLine", "IsValidStableLine")]
-    stable = rests.beneath(lines, GOALS) - wide
+    clauses = {crate: list(clauses_of(CRATES / crate, told)) for crate in crate_order()}
+    promised = {key for row in clauses["pop_tool"] if row.call == TOP_CALL for key in row.rests}
     out = [
-        "# Theorems",
+        *INTRODUCTION.splitlines(),
         "",
-        (
-            "Every clause that a public call promises: the headline first, then crate by crate downwards. Each row has"
-            " what the"
-        ),
-        (
-            "clause says: its comment, or the clause with the comment of its definition. Then come its place, and how"
-            " many lines"
-        ),
-        "of this repository's definitions it rests on. `tests/theorems.py --write` writes this file.",
-        "",
-        (
-            "Before that come the trusted definitions. `tests/theorems.py` stops if a listed definition uses one that"
-            " isn't"
-        ),
-        (
-            "listed. `certified` is printed exactly for valid proofs, and a valid proof gives that the net computes"
-            " the predicate."
-        ),
-        "If you ask only what `certified` tells of a protocol, you need not read what a valid proof is.",
-        (
-            "[The model](model.md) says the definitions in words, and [Reading](reading.md) how to read them. JSON's"
-            " values are"
-        ),
-        (
-            "those of the kit's `serde_json` and `json`, some 370 lines. Lists, texts and numbers are those of its"
-            " std. Neither is"
-        ),
-        "in a list.",
-        "",
-        *reading_list(
-            "To believe `certified`",
-            (
-                "The printed line and the status, the file of a bundle, and what it means that its net computes the"
-                " predicate, for\nfair executions too. Left out are what a valid proof is and how its part of the file"
-                " is written (`ValidProof`,\n`IsProofFile`, `IsProofWithin`), and the bounds of the next list. The"
-                " words need no list: `check_is_meant` says that\nthe word `check` alone means the command."
-            ),
-            narrow,
-            rests,
-            PROOFS | BOUNDS,
-        ),
-        *reading_list(
-            "To believe the bounds too",
-            (
-                "What more `certified` says of meetings of uniformly random pairs, and of runs by a proof with one"
-                " layer for each leaf."
-            ),
-            wide - narrow,
-            rests,
-            PROOFS | frozenset(key[2] for key in narrow),
-        ),
-        *reading_list(
-            "To believe `stable`",
-            (
-                "What is printed for a bundle with goals, its file, and what it means that a net is stably right."
-                " Left out are what a\nvalid proof with goals is and how its part of the file is written"
-                " (`ValidStableProof`, `IsPartFile`,\n`IsStableProofWithin`), and what stands in the lists above."
-            ),
-            stable,
-            rests,
-            GOALS | frozenset(key[2] for key in wide),
-        ),
+        *way_down(promised, rests),
+        *topic_lists(rests),
         *reading_list(
             "To believe the whole answer",
             "What a call promises, all commands and refusals among it.",
-            rests.beneath([("pop_tool", "Call", "IsCall")]),
+            rests.beneath(WAY[:1]),
             rests,
         ),
+        *edge(),
     ]
-    clauses = {crate: list(clauses_of(CRATES / crate, told)) for crate in crate_order()}
     out += headline(rests) + promises(clauses)
     for crate, rows in clauses.items():
         if not rows:

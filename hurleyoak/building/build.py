@@ -14,6 +14,7 @@ import sys
 import tempfile
 import time
 from pathlib import Path
+from typing import IO
 
 from ..engine.places import BUILT, STANDING, TOP
 from ..statuses import DONE, NOT_BUILT
@@ -21,21 +22,26 @@ from ..saying import say
 from ..streams import over
 from ..engine import sources
 from ..engine.lock import LOCK, Lock, holder
+from . import toolchain
+from .callers import Callers
 
 FIRST_TIME = "the first time this takes about half an hour on four processors"
 _CRATE = re.compile(r"rt: ([a-z_0-9]+)(?: proved$| is kept:)")
 _PROVED = ": proved\n"  # the end of what the gate says of a function
 EVERY = 1.0  # seconds between two looks at the clock on a terminal
 WIDTH = 79
-MAIN = "pop_main"
 HANDLES = TOP / "HANDLES"  # what the crates may reach
+
+
+class CallerGone(Exception):
+    """Who began the build has ended."""
 
 
 class Progress:
     """Which crate was checked last: a line for each, or on a terminal one line with the time."""
 
     def __init__(self) -> None:
-        self.all = len(sources.needed(MAIN))
+        self.all = len(_crates())
         self.seen: dict[str, None] = {}
         self.start = time.monotonic()
         self.on_terminal = sys.stderr.isatty()
@@ -63,9 +69,14 @@ class Progress:
             print(file=sys.stderr, flush=True)
 
 
+def _crates() -> set[str]:
+    """The programs' crates, and all that they stand on."""
+    return {crate for name in sources.programs() for crate in sources.needed(name)}
+
+
 def _copy_sources(room: Path) -> None:
-    """Copies the crates that the program stands on, without their must-fail edits."""
-    below = sources.needed(MAIN)
+    """Copies the crates that the programs stand on, without their must-fail edits."""
+    below = _crates()
     for name in sorted(below):
         of, to = sources.CRATES / name, room / "crates" / name
         shutil.copytree(of, to, ignore=shutil.ignore_patterns("out", "must-fail"))
@@ -75,41 +86,49 @@ def _copy_sources(room: Path) -> None:
         shutil.copy2(HANDLES, room)
 
 
-def _prove(folder: Path, log: list[str], progress: Progress, lock: Lock) -> bool:
-    """Runs the toolchain's gate over a folder; whether all passed."""
-    try:
-        # (the toolchain's command is Python's, and keeps its lines back where nobody asks for them; it has the lock
-        # too, so that who ends this process alone leaves no second build beside the first)
-        told = {**os.environ, "PYTHONUNBUFFERED": "1"}
-        run = subprocess.Popen(
-            ["rt", "ci"],
-            cwd=folder,
-            env=told,
-            stdin=subprocess.DEVNULL,
-            stdout=subprocess.PIPE,
-            stderr=subprocess.STDOUT,
-            pass_fds=[lock.number],
-        )
-    except OSError as error:
-        log.append(f"rt: {error.strerror}; the toolchain's command `rt` has to be on the path\n")
+def _prove(folder: Path, log: list[str], progress: Progress, lock: Lock, callers: Callers | None) -> bool:
+    """Runs the toolchain's gate over a folder; whether all passed. CallerGone where one of the callers has ended."""
+    if shutil.which("rt") is None:
+        log.append("rt: no such file; the toolchain's command `rt` has to be on the path\n")
         return False
-    assert run.stdout is not None
+    # (the toolchain's command is Python's, and keeps its lines back where nobody asks for them; it has the lock too,
+    # so that no second build begins before it has ended)
+    run = subprocess.Popen(
+        [sys.executable, "-E", "-s", "-P", toolchain.__file__, "rt", "ci"],
+        cwd=folder,
+        env={**os.environ, "PYTHONUNBUFFERED": "1"},
+        stdin=subprocess.PIPE,
+        stdout=subprocess.PIPE,
+        stderr=subprocess.STDOUT,
+        pass_fds=[lock.number],
+        start_new_session=True,
+    )
+    assert run.stdin is not None and run.stdout is not None
     try:
-        rest = b""
-        while True:
-            if not select.select([run.stdout], [], [], EVERY)[0]:
-                progress.tick()
-                continue
-            piece = os.read(run.stdout.fileno(), 1 << 16)
-            *lines, rest = (rest + piece).split(b"\n")
-            for line in lines + ([rest] if not piece and rest else []):
-                log.append(line.decode(errors="replace") + "\n")
-                progress.line(log[-1])
-            if not piece:
-                return run.wait() == 0
-    except BaseException:
-        run.terminate()
-        raise
+        _follow(run.stdout, log, progress, callers)
+        return run.wait() == 0
+    finally:
+        run.stdin.close()
+        run.wait()
+        run.stdout.close()
+
+
+def _follow(stdout: IO[bytes], log: list[str], progress: Progress, callers: Callers | None) -> None:
+    """Reads what the toolchain says to its end."""
+    rest = b""
+    while True:
+        if callers is not None and callers.has_ended():
+            raise CallerGone
+        if not select.select([stdout], [], [], EVERY)[0]:
+            progress.tick()
+            continue
+        piece = os.read(stdout.fileno(), 1 << 16)
+        *lines, rest = (rest + piece).split(b"\n")
+        for line in lines + ([rest] if not piece and rest else []):
+            log.append(line.decode(errors="replace") + "\n")
+            progress.line(log[-1])
+        if not piece:
+            return
 
 
 def _keep_standing() -> None:
@@ -119,8 +138,10 @@ def _keep_standing() -> None:
         os.replace(made, STANDING)
 
 
-def build() -> int:
-    """Builds where the program is missing or older than its sources; 0, or 9 where there is none then."""
+def build(is_asked: bool = False) -> int:
+    """Builds where the program is missing or older than its sources; 0, or 9 where there is none then. Unless a build
+    was asked for by its own word, it ends with who called the command that began it."""
+    callers = None if is_asked else Callers()
     try:
         lock = Lock()
     except OSError as error:
@@ -137,7 +158,14 @@ def build() -> int:
             lock.wait()
         if sources.is_of_sources():
             return DONE
-        return _build(lock)
+        return _build(lock, callers)
+    except CallerGone:
+        say(
+            [
+                "the build has ended with the command that began it; what is proved is kept, and `pop build` goes on from it"
+            ]
+        )
+        return NOT_BUILT
     except OSError as error:
         say([f"{error.filename or TOP}: {error.strerror}; the program is not built"])
         return NOT_BUILT
@@ -147,15 +175,15 @@ def build() -> int:
         lock.release()
 
 
-def _take(program: Path) -> None:
+def _take(program: Path, place: Path) -> None:
     """Puts a program in the place of the built one."""
-    BUILT.parent.mkdir(parents=True, exist_ok=True)
-    made = BUILT.with_suffix(".new")
+    place.parent.mkdir(parents=True, exist_ok=True)
+    made = place.with_suffix(".new")
     shutil.copy2(program, made)
-    os.replace(made, BUILT)
+    os.replace(made, place)
 
 
-def _build(lock: Lock) -> int:
+def _build(lock: Lock, callers: Callers | None) -> int:
     of = sources.checksum()
     _keep_standing()
     say([f"proving and building the program; {FIRST_TIME}"])
@@ -163,11 +191,12 @@ def _build(lock: Lock) -> int:
     progress = Progress()
     with tempfile.TemporaryDirectory(prefix="pop-build-") as folder:
         _copy_sources(Path(folder))
-        is_proved = _prove(Path(folder), log, progress, lock)
+        is_proved = _prove(Path(folder), log, progress, lock, callers)
         progress.end()
-        made = Path(folder, "crates", MAIN, "out", MAIN)
-        if is_proved and os.access(made, os.X_OK):
-            _take(made)
+        made = {Path(folder, "crates", name, "out", name): place for name, place in sources.programs().items()}
+        if is_proved and all(os.access(program, os.X_OK) for program in made):
+            for program, place in made.items():
+                _take(program, place)
             sources.record(of)
             return DONE
     sys.stderr.write("".join(line for line in log if not line.endswith(_PROVED)))

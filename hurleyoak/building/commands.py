@@ -9,7 +9,7 @@ from pathlib import Path
 from ..engine.places import BUILT, STANDING, TOP, VARIABLE
 from ..engine.lock import holder, is_held
 from ..engine.places import KEPT
-from ..engine.sources import is_of_sources
+from ..engine.sources import Origin, origin
 from ..saying import say
 from ..statuses import DONE, USAGE
 from ..version import RELEASE
@@ -17,6 +17,16 @@ from .build import build
 from .unproved import unproved
 
 INSTALLED = TOP / "VERSION"
+TOLD = {
+    Origin.SAME: "the program is that of the sources",
+    Origin.OLDER: "the program is older than the sources; `pop build` makes the new one",
+    Origin.UNKNOWN: "it isn't known from which sources the program was built; `pop build` makes one of which it is",
+}
+OF = {
+    Origin.SAME: "that of the sources",
+    Origin.OLDER: "older than that of the sources",
+    Origin.UNKNOWN: "of sources that aren't known",
+}
 
 
 def _first_line(words: list[str], instead: str) -> str:
@@ -39,11 +49,7 @@ def program_told() -> str:
         return "the program that stood before answers while a build goes on"
     if not os.access(BUILT, os.X_OK):
         return "the program isn't built; `pop build` proves and builds it"
-    return (
-        "the program is that of the sources"
-        if is_of_sources()
-        else "the program is older than the sources; `pop build` makes the new one"
-    )
+    return TOLD[origin()]
 
 
 def _release() -> str:
@@ -54,12 +60,7 @@ def _release() -> str:
 def installed(program: str) -> int:
     """Prints what an installation of this program says of itself."""
     path = Path(program).resolve()
-    is_built = path == BUILT.resolve()
-    of = (
-        ("that" if is_of_sources() else "older than that") + " of the sources"
-        if is_built
-        else "of sources that aren't known"
-    )
+    of = OF[origin() if path == BUILT.resolve() else Origin.UNKNOWN]
     print(_release())
     print(f"the program that was installed is {of}; its SHA-256 is {hashlib.sha256(path.read_bytes()).hexdigest()}")
     return DONE
@@ -91,4 +92,4 @@ def run(word: str, rest: list[str]) -> int:
     if rest:
         say([f"`{word}` takes no further words"])
         return USAGE
-    return version() if word == "--version" else build()
+    return version() if word == "--version" else build(is_asked=word == "build")

@@ -1,14 +1,12 @@
 """Answers a command of the program with a file or a predicate as an argument; sentences go to standard error."""
 from __future__ import annotations
 
-import json
 import os
 import sys
 
 from ..faults import InputFault
 from ..engine.places import BY_SCRIPT
 from ..engine.program import NoProgram
-from ..proof.bundles import bundle_of
 from ..statuses import DIFFERS, REFUSED, REJECTED, UNDECIDED, USAGE, WRITE_FAULT
 from ..saying import say
 from ..text.files import STANDARD_INPUT
@@ -16,6 +14,7 @@ from ..streams import STANDARD_OUTPUT
 from ..wholes import is_whole, whole_of
 from ..writing import WriteFault, write_whole
 from ..engine.inputs import Asked, make_input
+from .checking import CHECK, checked, say_told
 from .passing import Printed, ask, put
 from ..engine.request import PROGRAM_WORDS, STEPS, TWICE, USAGE as FORMS, Request, WordFault, read_request
 
@@ -116,6 +115,7 @@ def say_notes(asked: Asked) -> None:
 
 def run_request(request: Request, asked: Asked) -> int:
     """Asks the program, and passes on what it prints."""
+    told_of_claim: list[list[str]] = []
     is_long = request.command in LONG and request.output is None and os.isatty(STANDARD_OUTPUT)
     if request.command == "compile":
         from .compiling import NOTHING_FITS, compile_printed
@@ -130,6 +130,8 @@ def run_request(request: Request, asked: Asked) -> int:
         printed = with_steps(asked)
         if request.output is None:
             put(printed.data)
+    elif request.command == CHECK:
+        printed, told_of_claim = checked(asked, request.output is None)
     else:
         printed = ask(
             asked.words, asked.text().encode("utf-8", "surrogateescape"), passes=request.output is None and not is_long
@@ -139,19 +141,13 @@ def run_request(request: Request, asked: Asked) -> int:
         return WRITE_FAULT
     if is_long:
         put(summary(printed.data, request.command))
-    if request.command == "compile" and "--flocks" in request.options and printed.status == 0:
-        from ..show.told.flocks import flocks_told
-
-        for told in flocks_told(printed.data):
-            say([told])
     if TWICE in request.options:
         from .twice import told_twice
 
         status = told_twice(asked.lines[0], printed)
         if status != printed.status:
             return status
-    if request.command == "check" and printed.status == 0:
-        say_shown(asked, printed.line())
+    say_told(told_of_claim)
     if printed.status == 0:
         return 0 if request.output is None else write_output(request.output, printed.data)
     if request.output is not None and printed.status == UNDECIDED:
@@ -164,27 +160,6 @@ def run_request(request: Request, asked: Asked) -> int:
     if printed.status == USAGE and len(request.options) == 0:
         say([FORMS[request.command]])
     return printed.status
-
-
-def say_shown(asked: Asked, line: str) -> None:
-    """What the program has shown stable; of a file by names also the net, and what it has certified."""
-    from ..show.told.stable import STABLE, stable_told
-
-    if line.startswith(STABLE):
-        bundle = bundle_of(json.loads(asked.lines[0]))
-        say(stable_told(bundle, line, asked.file, asked.is_by_names))
-    elif asked.is_by_names:
-        say_certified(asked)
-
-
-def say_certified(asked: Asked) -> None:
-    """The net and the predicate that the program says it has certified, which the workbench made of a file by
-    names."""
-    from ..show.told.certified import certified_told
-
-    shown = ask(["show"], asked.text().encode("utf-8", "surrogateescape"), passes=False)
-    if shown.status == 0:
-        say(certified_told(shown.data.decode(), asked.file))
 
 
 def with_steps(asked: Asked) -> Printed:

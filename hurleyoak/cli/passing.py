@@ -69,10 +69,13 @@ def answer_unproved(words: list[str], data: bytes) -> None:
         os.close(file)
 
 
-def ask(words: list[str], data: bytes, passes: bool = True, builds: bool = True) -> Printed:
-    """Asks the program; NoProgram where there is none, EndedBySignal where a signal ended it."""
-    if builds and words[:1] == ["check"] and os.isatty(STANDARD_ERROR) and program_path() == str(BY_SCRIPT):
-        answer_unproved(words, data)
+def ask(
+    words: list[str], data: bytes, passes: bool = True, builds: bool = True, meanwhile: list[str] | None = None
+) -> Printed:
+    """Asks the program; NoProgram where there is none, EndedBySignal where a signal ended it. At a terminal the unproved
+    program is asked `meanwhile` before the first build."""
+    if builds and meanwhile and os.isatty(STANDARD_ERROR) and program_path() == str(BY_SCRIPT):
+        answer_unproved(meanwhile, data)
     path = ready_program(builds)
     file = _memory_file(data)
     sys.stdout.flush()

@@ -23,13 +23,19 @@ def told_twice(bundle: str, printed: Printed) -> int:
         [os.fspath(SECOND)], input=line, stdout=subprocess.PIPE, stderr=subprocess.STDOUT, check=False
     )
     said = second.stdout.decode(errors="replace").strip() or f"nothing, with status {second.returncode}"
-    if said == printed.line():
+    first = printed.data.decode(errors="replace").strip()
+    if said == first:
         say(["bin/recheck, a second checker that shares no code with the program, says the same"])
         return printed.status
     say(
         [
-            f"THE TWO CHECKERS DIFFER: the program says `{printed.line()}`, and bin/recheck `{said}`",
+            f"THE TWO CHECKERS DIFFER: the program says `{on_a_line(first)}`, and bin/recheck `{on_a_line(said)}`",
             "one of them is wrong; trust neither, and tell the authors, with the bundle",
         ]
     )
     return DIFFERS
+
+
+def on_a_line(text: str) -> str:
+    """Lines beside each other."""
+    return " / ".join(text.splitlines())

@@ -2,9 +2,9 @@
 from __future__ import annotations
 
 from dataclasses import dataclass, field
-from typing import Iterable
+from typing import Iterable, Sequence
 
-from ..proof.bundles import SIZE_LIMIT
+from ..proof.bundles import SIZE_LIMIT, Layer
 from ..protocol.nets import Leaf, Move, pair
 
 MULTIPLIER_LIMIT = SIZE_LIMIT
@@ -19,6 +19,16 @@ def ones(number: int) -> list[int]:
     return [i for i in range(number.bit_length() - 1, -1, -1) if number >> i & 1]
 
 
+def ends_of(numbers: Iterable[int]) -> list[int]:
+    """Each number and what is left of it without its greatest powers of two, but for powers of two; each once."""
+    found: dict[int, None] = {}
+    for number in numbers:
+        while number & (number - 1) and number not in found:
+            found[number] = None
+            number -= 1 << ones(number)[0]
+    return list(found)
+
+
 def power_name(place: int) -> str:
     """How a power of two is called in the name of a state: `2^5`."""
     return f"2^{place}"
@@ -26,7 +36,7 @@ def power_name(place: int) -> str:
 
 @dataclass
 class LeafDraft:
-    """States with their outputs and worths, moves, where variables start, and helpers.
+    """States with their outputs and worths, moves with their layers, where variables start, and helpers.
 
     `spare` is the state of a helper that is there for its number alone.
     """
@@ -35,6 +45,7 @@ class LeafDraft:
     outputs: list[bool] = field(default_factory=list)
     worth: list[int] = field(default_factory=list)
     moves: list[Move] = field(default_factory=list)
+    layer_of: list[int] = field(default_factory=list)
     inputs: list[int] = field(default_factory=list)
     helpers: list[int] = field(default_factory=list)
     spare: int = 0
@@ -51,13 +62,15 @@ class LeafDraft:
             self.meets.append(set())
         return self.numbers[name]
 
-    def move(self, p: int, q: int, r: int, s: int) -> int:
-        """The number of the new move p,q -> r,s. It changes something, and is the only one for its two states."""
+    def move(self, p: int, q: int, r: int, s: int, layer: int = 0) -> int:
+        """The number of the new move p,q -> r,s of this layer. It changes something, and is the only one for its two
+        states."""
         assert pair(p, q) != pair(r, s), f"a silent move of {self.states[p]} and {self.states[q]}"
         assert q not in self.meets[p], f"two moves for {self.states[p]} and {self.states[q]}"
         self.meets[p].add(q)
         self.meets[q].add(p)
         self.moves.append((p, q, r, s))
+        self.layer_of.append(layer)
         return len(self.moves) - 1
 
     def moves_where(self, states: Iterable[int], gives: bool) -> list[int]:
@@ -69,6 +82,18 @@ class LeafDraft:
     def pad(self, count: int) -> None:
         """Adds spare helpers, up to this number."""
         self.helpers += [self.spare] * (count - len(self.helpers))
+
+    def layers(self, weights: Sequence[Sequence[int]]) -> tuple[Layer, ...]:
+        """The layers, with these weights."""
+        return tuple(
+            Layer(tuple(t for t, layer in enumerate(self.layer_of) if layer == n), tuple(w))
+            for n, w in enumerate(weights)
+        )
+
+    def told(self, *groups: Iterable[int]) -> list[list[int]]:
+        """For each group of states the weights that count the agents in it."""
+        chosen = [set(group) for group in groups]
+        return [[int(state in group) for state in range(len(self.states))] for group in chosen]
 
     def leaf(self) -> Leaf:
         """The leaf as it is now."""

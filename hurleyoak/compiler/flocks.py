@@ -2,16 +2,17 @@
 
 An agent is worth nothing or a power of two; two that are worth the same join. What is worth 2^k, the least power that
 is at least c, turns all others into itself. Helpers are worth 2^k - c together. A coefficient that is no power of two
-is given off to agents that are worth nothing, the greatest power first.
+is given off to agents that are worth nothing, the greatest power first. Two equal ones of a variable join before that.
 """
 from __future__ import annotations
 
-from dataclasses import dataclass
+from dataclasses import dataclass, field
+from typing import Iterable
 
 from ..proof.bundles import Layer, LeafProof, Node
 from ..protocol.predicates import Less
 from .branch import EMPTY, ENTERS, STARTS, VALUE, WRONG, Branch, Says, Sum, flows, said_of
-from .drafts import MULTIPLIER_LIMIT, LeafDraft, NotBuilt, ones, power_name
+from .drafts import MULTIPLIER_LIMIT, LeafDraft, NotBuilt, ends_of, ones, power_name
 
 
 @dataclass(frozen=True)
@@ -60,8 +61,47 @@ def constant_proof(draft: LeafDraft, atom: OneSign, text: str) -> LeafProof:
     return LeafProof(text, (), trees[True], trees[False])
 
 
-def flock_leaf(atom: OneSign) -> Flock:
-    """The leaf with helpers; NotBuilt where its power is above the greatest multiplier."""
+@dataclass
+class _Tokens:
+    """A flock's states by what they are worth; `ones_of` has the tokens, and `waiting` those without a move yet."""
+
+    draft: LeafDraft
+    atom: OneSign
+    zero: int
+    ones_of: dict[int, int] = field(default_factory=dict)
+    waiting: list[int] = field(default_factory=list)
+
+    def of_worth(self, v: int) -> int:
+        """The state that is worth v, below 2^k."""
+        if v == 0:
+            return self.zero
+        if v & (v - 1) == 0:
+            return self.draft.numbers[power_name(v.bit_length() - 1)]
+        is_new = str(v) not in self.draft.numbers
+        state = self.draft.state(str(v), not self.atom.reached, v)
+        if is_new:
+            self.ones_of[state] = len(ones(v))
+            self.waiting.append(v)
+        return state
+
+    def join(self, weights: Iterable[int], top: int, full: int) -> None:
+        """Two equal tokens of a variable become one and an agent that is worth nothing, or two full ones."""
+        for a in ends_of(weights):
+            token = self.of_worth(a)
+            both = (self.of_worth(2 * a), self.zero) if 2 * a < full else (top, top)
+            self.draft.move(token, token, *both)
+
+    def give_off(self) -> None:
+        """Tokens give off their greatest power to agents that are worth nothing."""
+        while self.waiting:
+            v = self.waiting.pop()
+            given = 1 << ones(v)[0]
+            self.draft.move(self.of_worth(v), self.zero, self.of_worth(v - given), self.of_worth(given))
+
+
+def flock_leaf(atom: OneSign, joins: bool = True) -> Flock:
+    """The leaf with helpers; without `joins` tokens don't join, which takes fewer states. NotBuilt where its power is
+    above the greatest multiplier."""
     k = (atom.least - 1).bit_length()
     if 1 << k > MULTIPLIER_LIMIT:
         raise NotBuilt(
@@ -71,36 +111,21 @@ def flock_leaf(atom: OneSign) -> Flock:
     powers = tuple(draft.state(power_name(i), not atom.reached, 1 << i) for i in range(k))
     zero = draft.state("0", not atom.reached, 0)
     top = draft.state(power_name(k), atom.reached, 1 << k)
-    tokens: dict[int, int] = {}
-    waiting: list[int] = []
-
-    def of_worth(v: int) -> int:
-        if v == 0:
-            return zero
-        if v & (v - 1) == 0:
-            return draft.numbers[power_name(v.bit_length() - 1)]
-        is_new = str(v) not in draft.numbers
-        state = draft.state(str(v), not atom.reached, v)
-        if is_new:
-            tokens[state] = len(ones(v))
-            waiting.append(v)
-        return state
-
-    draft.inputs = [top if a >= atom.least else of_worth(a) for a in atom.weights]
+    tokens = _Tokens(draft, atom, zero)
+    draft.inputs = [top if a >= atom.least else tokens.of_worth(a) for a in atom.weights]
     for i, state in enumerate(powers):
         draft.move(state, state, draft.numbers[power_name(i + 1)], zero)
-    while waiting:
-        v = waiting.pop()
-        given = ones(v)[0]
-        draft.move(draft.numbers[str(v)], zero, of_worth(v - (1 << given)), powers[given])
+    if joins:
+        tokens.join([a for a in atom.weights if a < atom.least], top, 1 << k)
+    tokens.give_off()
     for state in range(len(draft.states)):
         if state != top:
             draft.move(top, state, top, top)
     draft.helpers = [powers[i] for i in ones((1 << k) - atom.least)]
     draft.spare = zero
-    if tokens:
+    if tokens.ones_of:
         draft.pad(k + 1)
-    return Flock(draft, atom, k, powers, tokens, zero, top)
+    return Flock(draft, atom, k, powers, tokens.ones_of, zero, top)
 
 
 def _layer(flock: Flock) -> Layer:

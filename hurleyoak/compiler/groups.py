@@ -3,11 +3,12 @@ from __future__ import annotations
 
 import re
 from math import prod
+from typing import Iterator
 
 from ..protocol.nets import Leaf
-from .worths import worths_of
+from .worths import worths_of, worths_told
 
-_DIGIT = re.compile(r"(\d+):(\d+)[ft*]?")
+_DIGIT = re.compile(r"(\d+)\.(\d+)[ft']?")
 HUBS = ("Hf", "Ht")
 
 
@@ -36,3 +37,15 @@ def _digits_of(leaf: Leaf) -> dict[str, list[int]]:
         out[f"digit of {prod(radices[:i])}"] = [q for q, match in found.items() if int(match[1]) == i]
     out["others"] = [q for q in range(len(leaf.states)) if q not in found and leaf.states[q] not in HUBS]
     return out
+
+
+def leaf_told(leaf: Leaf) -> Iterator[str]:
+    """What a reader of a compiled leaf is told of its states."""
+    yield from worths_told(leaf)
+    groups = _digits_of(leaf)
+    if groups:
+        places = ", ".join(name.removeprefix("digit of ") for name in groups if name.startswith("digit"))
+        yield f"helpers count, by digits that are worth {places}: i.d is the digit d of place i, the first place is 0"
+        yield "  v@i is an agent that still has v to add at place i; who has nothing to add is f or t"
+        yield "  f and t are the two answers; Hf and Ht are the hub, which turns them, as the callers F and T do"
+        yield "  a mark is on a digit that has just become right, and tells the hub so once"

@@ -1,11 +1,12 @@
 """The leaf of `sum = r mod m` with O(log m) states: a counter of digits, kept by helpers.
 
-An agent of a variable is a token (v, i) that still has to add v*W(i). W(i) is the place of digit i. Coefficients are
+An agent of a variable is a token (v, i) that still has to add v*W(i). W(i) is the place of digit i. Two equal tokens
+with a small v join, so that few have to meet the helper that keeps the digit. Coefficients are
 taken from 0 to m - 1. Where it has passed all digits with a carry, W, it comes back as a token of the value W - m. As
 W < 2*m, the counter shows m - 1 just where the sum is m - 1 modulo m, and it starts at m - 1 - r. A helper whose digit
 isn't that of m - 1 turns the hub to false. One that comes to its right digit is fresh, and turns the hub to true once.
 So at the end a hub of true has no wrong digit beside it, and where all digits are right the last who was fresh left a
-hub of true. The hub turns the answers of all others.
+hub of true. The hub turns the answers of all others, with callers as in the leaf of powers.
 """
 from __future__ import annotations
 
@@ -16,7 +17,8 @@ from ..protocol.predicates import Rest
 from .drafts import LeafDraft
 
 BASE = 4
-FRESH = "*"
+JOINED = (1, 2)  # what tokens have to add that join
+FRESH = "'"
 
 
 def radices_for(need: int) -> list[int]:
@@ -29,6 +31,11 @@ def radices_for(need: int) -> list[int]:
     return out
 
 
+def token_name(v: int, i: int) -> str:
+    """The name of an agent that still has to add v at digit i."""
+    return f"{v}@{i}"
+
+
 @dataclass
 class Modulo:
     """The leaf. `level[s]` is the place of a digit's state; `token[s]` the place where a token still has to add."""
@@ -39,6 +46,7 @@ class Modulo:
     places: list[int]
     goal: list[int]
     nothing: dict[bool, int]
+    caller: dict[bool, int]
     hubs: dict[bool, int]
     digit: dict[tuple[int, int, str], int] = field(default_factory=dict)
     level: dict[int, int] = field(default_factory=dict)
@@ -65,7 +73,7 @@ class Modulo:
             return self.nothing[False]
         if i == len(self.radices):
             return self.at(self.places[i] - self.atom.modulus, 0)
-        name = f"{i}+{v}"
+        name = token_name(v, i)
         is_new = name not in self.draft.numbers
         state = self.draft.state(name, False, v * self.places[i])
         if is_new:
@@ -84,15 +92,28 @@ def _started(atom: Rest) -> Modulo:
     nothing = {b: draft.state("t" if b else "f", b, 0) for b in (False, True)}
     hubs = {b: draft.state("Ht" if b else "Hf", b, 0) for b in (False, True)}
     draft.spare = nothing[False]
-    it = Modulo(draft, atom, radices, places, goal, nothing, hubs)
+    caller = {b: draft.state("T" if b else "F", b, 0) for b in (False, True)}
+    it = Modulo(draft, atom, radices, places, goal, nothing, caller, hubs)
     for i, radix in enumerate(radices):
         for d in range(radix):
             for b in "ft" + FRESH if d == goal[i] else ("",):
-                state = draft.state(f"{i}:{d}{b}", b == "t", d * places[i])
+                state = draft.state(f"{i}.{d}{b}", b == "t", d * places[i])
                 it.digit[i, d, b], it.level[state] = state, i
                 if d != goal[i]:
                     it.wrong.insert(0, state)
     return it
+
+
+def _join(it: Modulo) -> None:
+    """Two tokens that have 1 or 2 to add at one place become one, and an agent that is worth nothing.
+
+    Twice that is at most the radix: a carry of 2 out of the last place would be taken for one of 1.
+    """
+    for i, radix in enumerate(it.radices):
+        for v in (v for v in JOINED if 2 * v <= radix):
+            token = it.at(v, i)
+            if it.draft.states[token] == token_name(v, i):
+                it.draft.move(token, token, it.at(2 * v, i), it.nothing[False])
 
 
 def _add(it: Modulo) -> None:
@@ -106,24 +127,29 @@ def _add(it: Modulo) -> None:
 
 
 def _tell(it: Modulo) -> None:
-    """Digits tell the hub, and the hub tells all others."""
-    move, yes, no = it.draft.move, it.hubs[True], it.hubs[False]
+    """Digits tell the hub; the hub turns callers; hub and callers tell all others."""
+    move, caller, yes, no = it.draft.move, it.caller, it.hubs[True], it.hubs[False]
     for state in it.wrong:
-        move(state, yes, state, no)
+        move(state, yes, state, no, 1)
     for fresh, (_, told) in zip(it.fresh, it.sayers[1:]):
         for hub in it.hubs.values():
-            move(fresh, hub, told, yes)
-    move(yes, no, yes, it.nothing[False])
-    for f, t in it.sayers:
-        move(yes, f, yes, t)
-    for f, t in it.sayers:
-        move(no, t, no, f)
+            move(fresh, hub, told, yes, 1)
+    move(yes, no, yes, it.nothing[False], 1)
+    move(yes, caller[False], yes, caller[True], 2)
+    move(no, caller[True], no, caller[False], 3)
+    move(caller[True], caller[False], it.nothing[True], it.nothing[False], 4)
+    for b, layer in ((True, 5), (False, 6)):
+        for both in it.sayers:
+            wrong, right = both[not b], both[b]
+            move(it.hubs[b], wrong, it.hubs[b], caller[b] if wrong == it.nothing[not b] else right, layer)
+            move(caller[b], wrong, caller[b], right, layer)
 
 
 def modulo_leaf(atom: Rest) -> Modulo:
     """The leaf of a congruence."""
     it = _started(atom)
     it.draft.inputs = [it.at(a % atom.modulus, 0) for a in atom.coefficients]
+    _join(it)
     _add(it)
     _tell(it)
     start = (atom.modulus - 1 - atom.rest) % atom.modulus

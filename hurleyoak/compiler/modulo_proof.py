@@ -1,4 +1,4 @@
-"""The proof of the leaf of a congruence: four layers; a short tree for false, and one of O(m) nodes for true."""
+"""The proof of the leaf of a congruence: seven layers; a short tree for false, and one of O(m) nodes for true."""
 from __future__ import annotations
 
 from typing import Callable
@@ -11,22 +11,16 @@ LAST: tuple[Says, int] = (Says.SOME, 1)  # somebody is in the second trap
 
 
 def modulo_layers(it: Modulo) -> tuple[Layer, ...]:
-    """The sum; what digits tell the hub; answers turned to true; answers turned to false."""
-    draft, digits = it.draft, len(it.radices)
-    yes, no = it.hubs[True], it.hubs[False]
-    moves: tuple[list[int], ...] = ([], [], [], [])
-    for t, (p, q, r, _) in enumerate(draft.moves):
-        layer = 0 if p in it.token else 2 if p == yes and r == p and q != no else 3 if p == no else 1
-        moves[layer].append(t)
+    """The sum; what digits tell the hub; callers turned to true; to false; both kinds; answers turned to true; to
+    false."""
+    draft, digits, caller = it.draft, len(it.radices), it.caller
+    yes, no, fresh = it.hubs[True], it.hubs[False], set(it.fresh)
     states = range(len(draft.states))
-    fresh, falses, trues = set(it.fresh), {f for f, _ in it.sayers}, {t for _, t in it.sayers}
-    weights = (
-        [draft.worth[s] + (digits - it.token[s] if s in it.token else 0) for s in states],
-        [3 if s == yes else 2 if s == no or s in fresh else 0 for s in states],
-        [int(s in falses) for s in states],
-        [int(s in trues) for s in states],
-    )
-    return tuple(Layer(tuple(m), tuple(w)) for m, w in zip(moves, weights))
+    first = [draft.worth[s] + (digits - it.token[s] if s in it.token else 0) for s in states]
+    second = [3 if s == yes else 2 if s == no or s in fresh else 0 for s in states]
+    falses, trues = [f for f, _ in it.sayers], [t for _, t in it.sayers]
+    groups = draft.told([caller[False]], [caller[True]], caller.values(), falses, trues)
+    return draft.layers([first, second, *groups])
 
 
 class Tree:
@@ -178,5 +172,5 @@ class Tree:
 
 
 def modulo_proof(it: Modulo, text: str) -> LeafProof:
-    """Four layers, and a tree for each value."""
+    """Seven layers, and a tree for each value."""
     return LeafProof(text, modulo_layers(it), Tree(it, True).nodes(), Tree(it, False).nodes())

@@ -4,8 +4,13 @@ An agent is worth a power of two or nothing; two that are worth the same join, u
 worth less than nothing for good: it is worth 0 or -W. An agent of a variable with a negative coefficient -a is a
 debtor. It waits for an agent that is worth more than a, or for a hub of 0, and takes what it owes. Together with 2^i
 it becomes 2^i - a and nothing. With a hub of 0 it becomes W - a and makes the hub -W. What is no power of two is given
-off to agents that are worth nothing, the greatest power first: such an agent is a token. So at the end a hub of -W has
-no plus beside it, and a hub of 0 no debtor: the sign of the sum is the hub's. The hub turns the answers of all others.
+off to agents that are worth nothing, the greatest power first: such an agent is a token. Two equal tokens of a variable
+join, so that a crowd of tokens alone soon has agents that are worth nothing. At the end a hub of -W has no plus beside
+it, and a hub of 0 no debtor: the sign of the sum is the hub's.
+
+The hub turns the answers of all others. It also makes callers, of agents that are worth nothing and say what is wrong.
+A caller turns the answers of all but other callers and makes no callers. A hub turns the callers of the other answer,
+and two callers of different answers fall silent. So a hub that changes its mind need not meet everybody.
 
 The sum may be taken with the other sign, which exchanges the two answers: `sum < c` is the denial of `-sum < 1 - c`.
 """
@@ -14,7 +19,7 @@ from __future__ import annotations
 from dataclasses import dataclass, field
 
 from ..protocol.predicates import Less
-from .drafts import MULTIPLIER_LIMIT, LeafDraft, NotBuilt, ones, power_name
+from .drafts import MULTIPLIER_LIMIT, LeafDraft, NotBuilt, ends_of, ones, power_name
 
 LOW, HIGH, PLUS = "N", "O", "P"
 ANSWERS = (False, True)
@@ -24,7 +29,8 @@ ANSWERS = (False, True)
 class Powers:
     """The leaf; `low` and `high` are the hubs, worth -W and 0, and `plus` is worth W.
 
-    `nothing[b]` and `power[i, b]` are worth 0 and 2^i, with the answer of a hub of 0 (b false) or of -W (b true).
+    `nothing[b]`, `caller[b]` and `power[i, b]` are worth 0, 0 and 2^i, with the answer of a hub of 0 (b false) or of -W
+    (b true).
     """
 
     draft: LeafDraft
@@ -34,6 +40,7 @@ class Powers:
     high: int
     plus: int
     nothing: dict[bool, int]
+    caller: dict[bool, int]
     power: dict[tuple[int, bool], int]
     tokens: list[int] = field(default_factory=list)
     debtors: list[int] = field(default_factory=list)
@@ -69,22 +76,19 @@ class Powers:
         return [(self.nothing[False], self.nothing[True]), *powers]
 
 
-def _answer(b: bool) -> str:
-    return "t" if b else "f"
-
-
 def _started(k: int, low_output: bool) -> Powers:
     """The states that are there whatever the coefficients are."""
     draft = LeafDraft()
     low = draft.state(LOW, low_output, -(1 << k))
     high = draft.state(HIGH, not low_output, 0)
-    nothing = {b: draft.state("0" + _answer(b), b == low_output, 0) for b in ANSWERS}
+    nothing = {b: draft.state(f"0{'ft'[b]}", b == low_output, 0) for b in ANSWERS}
     power = {
-        (i, b): draft.state(power_name(i) + _answer(b), b == low_output, 1 << i) for i in range(k) for b in ANSWERS
+        (i, b): draft.state(f"{power_name(i)}{'ft'[b]}", b == low_output, 1 << i) for i in range(k) for b in ANSWERS
     }
     plus = draft.state(PLUS, not low_output, 1 << k)
+    caller = {b: draft.state(f"0{'FT'[b]}", b == low_output, 0) for b in ANSWERS}
     draft.spare = nothing[False]
-    return Powers(draft=draft, k=k, low_output=low_output, low=low, high=high, plus=plus, nothing=nothing, power=power)
+    return Powers(draft, k, low_output, low, high, plus, nothing, caller, power)
 
 
 def _join(it: Powers) -> None:
@@ -107,30 +111,53 @@ def _pay(it: Powers) -> None:
         move(debtor, it.high, it.of_worth(width - a), it.low)
 
 
+def _double(it: Powers, tokens: list[int]) -> None:
+    """Two equal tokens of a variable become one of twice the worth, and an agent that is worth nothing."""
+    for a in ends_of(tokens):
+        if 2 * a < 1 << it.k:
+            token = it.of_worth(a)
+            it.draft.move(token, token, it.of_worth(2 * a), it.nothing[False])
+
+
 def _give_off(it: Powers) -> None:
     """Tokens give off their greatest power, and what is left is a token or a power."""
     draft = it.draft
     while it.waiting:
         token = it.waiting.pop()
         given = ones(draft.worth[token])[0]
-        for b in ANSWERS:
-            rest = it.of_worth(draft.worth[token] - (1 << given))
-            draft.move(token, it.nothing[b], rest, it.power[given, b])
+        rest = it.of_worth(draft.worth[token] - (1 << given))
+        for zeros in (it.nothing, it.caller):
+            for b in ANSWERS:
+                draft.move(token, zeros[b], rest, it.power[given, b])
+
+
+def _meet(it: Powers) -> None:
+    """The hubs meet each other and the plus."""
+    it.draft.move(it.plus, it.low, it.nothing[False], it.high)
+    it.draft.move(it.low, it.high, it.low, it.nothing[False])
+
+
+def _call(it: Powers) -> None:
+    """The hubs turn the callers, with the help of debtors and pluses; two callers fall silent."""
+    move, nothing, caller = it.draft.move, it.nothing, it.caller
+    for b, hub, helping, layer in ((True, it.low, it.debtors, 1), (False, it.high, [it.plus], 2)):
+        move(hub, caller[not b], hub, caller[b], layer)
+        for state in helping:
+            move(state, caller[not b], state, nothing[b], layer)
+    move(caller[True], caller[False], nothing[True], nothing[False], 3)
 
 
 def _tell(it: Powers) -> None:
-    """The hubs meet each other and the plus, and turn the answers; debtors and pluses help with those worth
-    nothing."""
-    move, sayers = it.draft.move, it.sayers
-    move(it.plus, it.low, it.nothing[False], it.high)
-    move(it.low, it.high, it.low, it.nothing[False])
-    for f, t in sayers:
-        move(it.low, f, it.low, t)
-    for debtor in it.debtors:
-        move(debtor, it.nothing[False], debtor, it.nothing[True])
-    for f, t in sayers:
-        move(it.high, t, it.high, f)
-    move(it.plus, it.nothing[True], it.plus, it.nothing[False])
+    """Hubs and callers turn the answers; debtors and pluses help with those worth nothing."""
+    move, nothing, caller = it.draft.move, it.nothing, it.caller
+    for b, hub, helping, layer in ((True, it.low, it.debtors, 4), (False, it.high, [it.plus], 5)):
+        for both in it.sayers:
+            wrong, right = both[not b], both[b]
+            is_nothing = wrong == nothing[not b]
+            move(hub, wrong, hub, caller[b] if is_nothing else right, layer)
+            move(caller[b], wrong, caller[b], right, layer)
+        for state in helping:
+            move(state, nothing[not b], state, nothing[b], layer)
 
 
 def range_of(coefficients: tuple[int, ...], bound: int) -> int:
@@ -138,13 +165,21 @@ def range_of(coefficients: tuple[int, ...], bound: int) -> int:
     return max(bound, 1 - bound, *(abs(a) for a in coefficients))
 
 
-def powers_leaf(atom: Less, turned: bool = False) -> Powers:
-    """The leaf, of the sum or of the sum with the other sign; NotBuilt where the bound is above the greatest
-    multiplier."""
+def power_of(coefficients: tuple[int, ...], bound: int, tokens: list[int]) -> int:
+    """The k of the leaf: its range is 2^k, and twice a token is below it, where that is within the limits."""
+    greatest = MULTIPLIER_LIMIT.bit_length() - 1
+    k = (min(range_of(coefficients, bound), MULTIPLIER_LIMIT) - 1).bit_length()
+    return min(max([k, *((2 * a).bit_length() for a in tokens)]), greatest)
+
+
+def powers_leaf(atom: Less, turned: bool = False, joins: bool = True) -> Powers:
+    """The leaf, of the sum or of the sum with the other sign; without `joins` tokens don't join, which takes fewer
+    states. NotBuilt where the bound is above the greatest multiplier."""
     coefficients, bound = atom.coefficients, atom.bound
     if turned:
         coefficients, bound = tuple(-a for a in coefficients), 1 - bound
-    k = (min(range_of(coefficients, bound), MULTIPLIER_LIMIT) - 1).bit_length()
+    tokens = [a for a in coefficients if a > 0 and a & (a - 1)] if joins else []
+    k = power_of(coefficients, bound, tokens)
     width = 1 << k
     if bound > width:
         raise NotBuilt(f"the bound {bound} is above {MULTIPLIER_LIMIT}, the greatest multiplier of a proof")
@@ -152,7 +187,10 @@ def powers_leaf(atom: Less, turned: bool = False) -> Powers:
     it.draft.inputs = [it.of_worth(a) if a >= 0 else it.debtor(-a) for a in coefficients]
     _join(it)
     _pay(it)
+    _double(it, tokens)
     _give_off(it)
+    _meet(it)
+    _call(it)
     _tell(it)
     start = -bound
     it.draft.helpers = [it.low if start < 0 else it.high]
@@ -164,9 +202,9 @@ def powers_leaf(atom: Less, turned: bool = False) -> Powers:
     return it
 
 
-def best_powers(atom: Less) -> Powers:
+def best_powers(atom: Less, joins: bool = True) -> Powers:
     """The leaf of the sign with fewer states."""
-    plain = powers_leaf(atom)
+    plain = powers_leaf(atom, False, joins)
     if 1 - atom.bound > MULTIPLIER_LIMIT:
         return plain
-    return min(plain, powers_leaf(atom, True), key=lambda it: len(it.draft.states))
+    return min(plain, powers_leaf(atom, True, joins), key=lambda it: len(it.draft.states))

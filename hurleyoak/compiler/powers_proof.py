@@ -1,6 +1,8 @@
-"""The proof of the leaf of powers: three layers, and two trees of one shape for all coefficients.
+"""The proof of the leaf of powers: six layers, and two trees of one shape for all coefficients.
 
-First the sum, which knows nothing of answers; then a hub of -W turns answers one way, then a hub of 0 the other way.
+First the sum, which knows nothing of answers. Then a hub of -W turns the callers of the other answer, then a hub of 0
+does. Then callers of both answers fall silent. At last answers turn one way with a hub of -W, and the other way with a
+hub of 0.
 The two hubs are a trap which no move leaves, and which one is there at the end says the sign of the sum.
 """
 from __future__ import annotations
@@ -13,27 +15,15 @@ from .drafts import ones
 from .powers import Powers
 
 
-def _layer_of(it: Powers, p: int, q: int, r: int) -> int:
-    """0 for a move of the sum, 1 and 2 for one that turns answers."""
-    if p == r and (p == it.low and q != it.high or p in it.debtors):
-        return 1
-    return 2 if p == r and p in (it.high, it.plus) else 0
-
-
 def powers_layers(it: Powers) -> tuple[Layer, ...]:
-    """Weights of the sum by the number of ones, and of the answers that are turned."""
-    draft = it.draft
-    count = len(draft.states)
-    moves: tuple[list[int], ...] = ([], [], [])
-    for t, (p, q, r, _) in enumerate(draft.moves):
-        moves[_layer_of(it, p, q, r)].append(t)
+    """Weights of the sum by the number of ones, and of callers and of the answers that are turned."""
+    draft, caller = it.draft, it.caller
     first = [2 * len(ones(v)) - 1 if v > 0 else 0 for v in draft.worth]
     for debtor in it.debtors:
         first[debtor] = max(2 * it.k, 1)
     first[it.low] = first[it.high] = 1
-    falses, trues = {f for f, _ in it.sayers}, {t for _, t in it.sayers}
-    second, third = ([int(s in told) for s in range(count)] for told in (falses, trues))
-    return tuple(Layer(tuple(m), tuple(w)) for m, w in zip(moves, (first, second, third)))
+    falses, trues = [f for f, _ in it.sayers], [t for _, t in it.sayers]
+    return draft.layers([first, *draft.told([caller[False]], [caller[True]], caller.values(), falses, trues)])
 
 
 class Tree:
@@ -66,16 +56,18 @@ class Tree:
             for state in self.singles:
                 twin, branch = branch.twin(state)
                 nodes.append(twin)
-        if self.it.tokens:
-            zero, none, branch = branch.present(self.it.nothing[True])
-            nodes += [zero, self.few(none)]
-        return [*nodes, *last(branch)]
+        if not self.it.tokens:
+            return [*nodes, *last(branch)]
+        zero, none, here = branch.present(self.it.nothing[True])
+        caller, neither, calling = none.present(self.it.caller[True])
+        return [*nodes, zero, caller, self.few(neither), *last(calling), *last(here)]
 
     def few(self, branch: Branch) -> Node:
         """There are more agents than tokens, debtors, hubs and one for each power."""
         it = self.it
         waiting = {*it.tokens, *it.debtors, it.low, it.high}
-        absent = [*it.nothing.values(), it.plus, *(s for (_, b), s in it.power.items() if not b)]
+        powers = [s for (_, b), s in it.power.items() if not b]
+        absent = [*it.nothing.values(), *it.caller.values(), it.plus, *powers]
         terms = flows({s: 0 if s in waiting else -1 for s in self.worth})
         terms |= said_of(Says.ABSENT, dict.fromkeys(absent, -1))
         return branch.lin(terms | said_of(Says.SINGLE, dict.fromkeys(self.singles, 1)))
@@ -103,5 +95,5 @@ class Tree:
 
 
 def powers_proof(it: Powers, text: str) -> LeafProof:
-    """Three layers, and a tree for each value."""
+    """Six layers, and a tree for each value."""
     return LeafProof(text, powers_layers(it), Tree(it, True).nodes(), Tree(it, False).nodes())

@@ -1,12 +1,13 @@
-"""The leaf of `sum = r mod m` that the program's `compile` makes, with spare helpers: leaders of the value 0.
+"""The leaf of `sum = r mod m` by leaders that add up, with spare helpers: leaders of the value 0.
 
-It is here so that a small remainder can stand beside leaves that need helpers. It has m + 2 states.
+So a small remainder can stand beside leaves that need helpers. It has m + 4 states: the leaders, and followers that
+say false or true, each as a caller, as in the leaf of powers, and as one that calls nobody.
 """
 from __future__ import annotations
 
 from dataclasses import dataclass
 
-from ..proof.bundles import Layer, LeafProof, Node
+from ..proof.bundles import LeafProof, Node
 from ..protocol.predicates import Rest
 from .branch import AGENTS, HELPED, LEAVES, SOME, VALUE, Branch, Says, flows, said_of
 from .drafts import LeafDraft
@@ -18,6 +19,8 @@ class Leaders:
 
     draft: LeafDraft
     atom: Rest
+    follower: dict[bool, int]
+    caller: dict[bool, int]
 
 
 def leaders_leaf(atom: Rest) -> Leaders:
@@ -26,15 +29,28 @@ def leaders_leaf(atom: Rest) -> Leaders:
     draft = LeafDraft()
     for n in range(m):
         draft.state(f"N{n}", n == atom.rest, n)
-    answer = {False: draft.state("f", False, 0), True: draft.state("t", True, 0)}
+    follower = {b: draft.state("ft"[b], b, 0) for b in (False, True)}
+    caller = {b: draft.state("FT"[b], b, 0) for b in (False, True)}
     for n in range(m):
         for other in range(n, m):
             total = (n + other) % m
-            draft.move(n, other, total, answer[total == atom.rest])
-    for n in range(m):
-        draft.move(n, answer[n != atom.rest], n, answer[n == atom.rest])
+            draft.move(n, other, total, follower[total == atom.rest])
+    it = Leaders(draft, atom, follower, caller)
+    _tell(it)
     draft.inputs = [a % m for a in atom.coefficients]
-    return Leaders(draft, atom)
+    return it
+
+
+def _tell(it: Leaders) -> None:
+    """A leader turns callers; leaders and callers tell all others."""
+    move, follower, caller = it.draft.move, it.follower, it.caller
+    for n in range(it.atom.modulus):
+        b = n == it.atom.rest
+        move(n, caller[not b], n, caller[b], 1 if b else 2)
+        move(n, follower[not b], n, caller[b], 4 if b else 5)
+    move(caller[True], caller[False], follower[True], follower[False], 3)
+    for b, layer in ((True, 4), (False, 5)):
+        move(caller[b], follower[not b], caller[b], follower[b], layer)
 
 
 def _tree(it: Leaders, value: bool) -> tuple[Node, ...]:
@@ -60,12 +76,10 @@ def _tree(it: Leaders, value: bool) -> tuple[Node, ...]:
 
 
 def leaders_proof(it: Leaders, text: str) -> LeafProof:
-    """The leaders join, then true is told, then false."""
-    m, moves = it.atom.modulus, it.draft.moves
-    partner = {m: 1, m + 1: 2}
-    kinds = [partner.get(move[1], 0) for move in moves]
-    weights = ([1] * m + [0, 0], [0] * m + [1, 0], [0] * m + [0, 1])
-    layers = tuple(
-        Layer(tuple(t for t, kind in enumerate(kinds) if kind == n), tuple(w)) for n, w in enumerate(weights)
-    )
+    """The leaders join; false callers fall beside a right leader, true ones beside another, then both; then true is
+    told, then false."""
+    draft, follower, caller = it.draft, it.follower, it.caller
+    callers = ([caller[False]], [caller[True]], caller.values())
+    weights = draft.told(range(it.atom.modulus), *callers, [follower[False]], [follower[True]])
+    layers = draft.layers(weights)
     return LeafProof(text, layers, _tree(it, True), _tree(it, False))

@@ -82,33 +82,32 @@ def combination(tree: Predicate, atoms: Sequence[Atom]) -> list[Item]:
 
 
 def _rest(atom: Rest) -> Built:
-    digits = modulo_leaf(atom)
-    if len(digits.draft.states) < atom.modulus + 2:
+    digits, leaders = modulo_leaf(atom), leaders_leaf(atom)
+    if len(digits.draft.states) < len(leaders.draft.states):
         return Built(atom, Kind.DIGITS, digits.draft, lambda text: modulo_proof(digits, text))
-    leaders = leaders_leaf(atom)
     return Built(atom, Kind.LEADERS, leaders.draft, lambda text: leaders_proof(leaders, text))
 
 
-def _less(atom: Less, without_helpers: bool) -> Built:
+def _less(atom: Less, without_helpers: bool, joins: bool) -> Built:
     flat = one_sign(atom)
     if flat is None:
-        powers = best_powers(atom)
+        powers = best_powers(atom, joins)
         return Built(atom, Kind.POWERS, powers.draft, lambda text: powers_proof(powers, text))
-    return _one_sign(atom, flat, without_helpers)
+    return _one_sign(atom, flat, without_helpers, joins)
 
 
-def _one_sign(atom: Less, flat: OneSign, without_helpers: bool) -> Built:
+def _one_sign(atom: Less, flat: OneSign, without_helpers: bool, joins: bool) -> Built:
     if flat.least <= 0:
         draft = constant_leaf(flat)
         return Built(atom, Kind.CONSTANT, draft, lambda text: constant_proof(draft, flat, text))
     if without_helpers and stands_alone(flat):
         alone = alone_leaf(flat)
         return Built(atom, Kind.ALONE, alone.draft, lambda text: alone_proof(alone, text))
-    flock = flock_leaf(flat)
+    flock = flock_leaf(flat, joins)
     return Built(atom, Kind.FLOCK, flock.draft, lambda text: flock_proof(flock, text))
 
 
-def _leaf(atom: Atom, names: Sequence[str], without_helpers: bool) -> Built:
+def _leaf(atom: Atom, names: Sequence[str], without_helpers: bool, joins: bool) -> Built:
     """The leaf of an atom; with `without_helpers` one that needs none, where there is one."""
     if isinstance(atom, Rest):
         if not without_helpers:
@@ -116,20 +115,20 @@ def _leaf(atom: Atom, names: Sequence[str], without_helpers: bool) -> Built:
         leaders = leaders_leaf(atom)
         return Built(atom, Kind.LEADERS, leaders.draft, lambda text: leaders_proof(leaders, text))
     try:
-        return _less(atom, without_helpers)
+        return _less(atom, without_helpers, joins)
     except NotBuilt as fault:
         raise NotBuilt(f"`{canonical_text(atom, names)}`: {fault}") from None
 
 
-def _parts(atoms: Sequence[Atom], names: Sequence[str], helpers: Helpers) -> list[Built]:
+def _parts(atoms: Sequence[Atom], names: Sequence[str], helpers: Helpers, joins: bool) -> list[Built]:
     """The leaves without helpers where all can do without, else with as many as the one that needs most."""
-    parts = [_leaf(atom, names, True) for atom in atoms]
+    parts = [_leaf(atom, names, True, joins) for atom in atoms]
     needy = [part for part in parts if part.draft.helpers]
     if helpers is Helpers.NONE and needy:
         raise NotBuilt(f"`{canonical_text(needy[0].atom, names)}` has no leaf without helpers")
     is_small = sum(len(part.draft.states) for part in parts)
     if needy or helpers is Helpers.ANY and any(isinstance(atom, Rest) for atom in atoms):
-        padded = [_leaf(atom, names, False) for atom in atoms]
+        padded = [_leaf(atom, names, False, joins) for atom in atoms]
         if needy or sum(len(part.draft.states) for part in padded) < is_small:
             parts = padded
     most = max(len(part.draft.helpers) for part in parts)
@@ -164,11 +163,22 @@ def _costly(part: Built) -> str:
     return f"; the coefficient {worst} costs the most, as it has {costs[worst]} ones in binary"
 
 
+def _fitting(atoms: Sequence[Atom], names: Sequence[str], helpers: Helpers) -> list[Built]:
+    """The leaves in which tokens join, which are quicker, else those in which they don't, which have fewer states;
+    NotBuilt where neither fits."""
+    try:
+        parts = _parts(atoms, names, helpers, True)
+        _within_limits(parts, names)
+    except NotBuilt:
+        parts = _parts(atoms, names, helpers, False)
+        _within_limits(parts, names)
+    return parts
+
+
 def compiled(tree: Predicate, names: Sequence[str], helpers: Helpers = Helpers.ANY) -> Compiled:
     """The succinct bundle of a predicate; NotBuilt where no leaf fits."""
     atoms = atoms_of(tree)
-    parts = _parts(atoms, names, helpers)
-    _within_limits(parts, names)
+    parts = _fitting(atoms, names, helpers)
     leaves = tuple(part.draft.leaf() for part in parts)
     form = 2 if leaves[0].helpers else 1
     net = Net(tuple(names), leaves, tuple(combination(tree, atoms)), form)

@@ -7,7 +7,8 @@ from typing import Iterator
 from ..protocol.nets import Leaf
 
 _POWER = re.compile(r"2\^(\d+)([ft]?)")
-_NUMBER = re.compile(r"(-?\d+)([ft]?)")
+_NUMBER = re.compile(r"(?:\w+\.)?(-?\d+)(?:[ft]?|'*)|0[FT]")
+CALLERS = {"0F", "0T"}
 PLACE_LIMIT = 40
 
 
@@ -16,7 +17,7 @@ def _plain(name: str) -> int | None:
     if found := _POWER.fullmatch(name):
         return 1 << int(found[1]) if int(found[1]) <= PLACE_LIMIT else None
     if found := _NUMBER.fullmatch(name):
-        return int(found[1])
+        return int(found[1] or 0)
     return None
 
 
@@ -46,5 +47,9 @@ def worths_told(leaf: Leaf) -> Iterator[str]:
     yield "no move changes the sum of what the agents are worth:"
     yield f"  N {worth['N']}, O 0 and P {worth['P']}; 2^i is worth 2^i, and a number is worth itself"
     yield "  f and t after a worth are the two answers; N turns f to t, and O turns t to f"
+    if CALLERS <= set(leaf.states):
+        yield "  0F and 0T are callers, which N and O make: they turn the answers of all others too"
     if any(value < 0 for name, value in worth.items() if name != "N"):
         yield "  a number below 0 is a debtor, which waits for an agent that is worth more"
+    if any("." in name for name in leaf.states):
+        yield "  a name before a dot is the variable whose agent it was"

@@ -6,19 +6,21 @@ import os
 from dataclasses import dataclass, field
 from typing import Any
 
-from ..text.cautions import cautions, slow_pairs
+from ..text.cautions import cautions
 from ..faults import InputFault
 from ..text.files import ASSUMES, STANDARD_INPUT, load, read_text
 from ..text.given import READ_AS
 from ..text.loaded import strict_bundle
+from ..text.membersof import NoMember, load_chosen
 from ..text.jsontext import DECODER
 from ..protocol.nets import VARIABLE_LIMIT, FormatFault, compact, is_variable_name, net_of
-from ..proof.bundles import bundle_of
+from ..proof.bundles import Bundle
 from ..text.relaxed import in_form
+from ..visible import one_line
 from .request import TAKES_PREDICATE, Request, WordFault
 
 RELATION_SIGNS = "<>=≤≥≠≡"
-PLAYS, CHECKS = "play", "check"
+PLAYS = "play"
 
 
 @dataclass
@@ -26,7 +28,7 @@ class Asked:
     """What the program is asked: its words and the lines of its input.
 
     `names` says for a reader where each line comes from. `original` is the text of the JSON if its lines were joined.
-    `is_by_names` says that the bundle was made of a `.pop` file. `notes` say what was read in another form.
+    `bundle` is the one that was made of a `.pop` file. `notes` say what was read in another form.
     """
 
     words: list[str]
@@ -35,7 +37,7 @@ class Asked:
     file: str = ""
     original: str = ""
     is_stdin: bool = False
-    is_by_names: bool = False
+    bundle: Bundle | None = None
     is_strict: bool = False
     has_guessed_names: bool = False
     notes: list[str] = field(default_factory=list)
@@ -76,11 +78,11 @@ def cut_json(text: str) -> tuple[str, list[str], Any]:
 
 
 def _read(path: str, asked: Asked) -> str:
-    asked.file = "standard input" if path == STANDARD_INPUT else path
+    asked.file = "standard input" if path == STANDARD_INPUT else one_line(path)
     if not path:
         raise InputFault("the file's name is empty")
     if path != STANDARD_INPUT and os.path.isdir(path):
-        raise InputFault(f"{path} is a folder; give a file")
+        raise InputFault(f"{asked.file} is a folder; give a file")
     text = read_text(path)
     if "\r\n" in text:
         asked.notes.append(f"{asked.file} has lines that end in CR and LF; they were read as LF alone")
@@ -88,28 +90,30 @@ def _read(path: str, asked: Asked) -> str:
     return text
 
 
-def _cautions(value: Any, command: str) -> list[str]:
+def _cautions(value: Any) -> list[str]:
     """What is probably not meant of a net, or of a bundle's; nothing of one that is malformed, which the program
     tells."""
     try:
-        told = cautions(net_of(value.get("net", value)))
-        return told + slow_pairs(bundle_of(value)) if command == CHECKS else told
+        return cautions(net_of(value.get("net", value)))
     except (FormatFault, AttributeError):
         return []
 
 
 def _protocol(request: Request, text: str, asked: Asked) -> list[str]:
     """The line of a net or bundle; gives the lines behind it."""
-    if text.lstrip()[:1] in ("{", "["):
+    if request.member is None and text.lstrip()[:1] in ("{", "["):
         line, behind, value = cut_json(text)
         asked.original = text
         if request.command == PLAYS and isinstance(value, dict) and "net" in value and "leaves" not in value:
             asked.notes.append(f"{asked.file} is a bundle; the net in it is played")
             line, asked.original = compact(value["net"]), ""
-        asked.notes += [f"{asked.file}: warning: {told}" for told in _cautions(value, request.command)]
+        asked.notes += [f"{asked.file}: warning: {told}" for told in _cautions(value)]
         asked.add(line, asked.file)
         return behind
-    loaded = load(text, asked.file)
+    try:
+        loaded = load_chosen(text, asked.file, request.member)
+    except NoMember as fault:
+        raise WordFault(str(fault)) from None
     asked.notes += [f"{asked.file}: {'' if READ_AS in told else 'warning: '}{told}" for told in loaded.warnings]
     if request.command == PLAYS:
         asked.add(compact(loaded.net.value()), asked.file)
@@ -117,10 +121,8 @@ def _protocol(request: Request, text: str, asked: Asked) -> list[str]:
     bundle = strict_bundle(loaded)
     if loaded.assumed:
         asked.notes.append(f"{asked.file}: {ASSUMES}")
-    if request.command == CHECKS:
-        asked.notes += [f"{asked.file}: warning: {told}" for told in slow_pairs(bundle)]
     asked.add(bundle.line(), asked.file)
-    asked.is_by_names = True
+    asked.bundle = bundle
     return []
 
 

@@ -18,6 +18,7 @@ from ..statuses import (
     NO_MEMORY as NO_MEMORY,
     NOT_BUILT as NOT_BUILT,
 )
+from .claims import NO_CLAIM, Claim, claimed
 from .places import BUILT as BUILT, BY_SCRIPT as BY_SCRIPT, STANDING as STANDING, TOP as TOP, VARIABLE as VARIABLE
 
 SIGNAL_STATUS = 128  # and the signal's number, as shells have it
@@ -34,6 +35,11 @@ class Answer:
     def first_line(self) -> str:
         """The first line, without its line feed."""
         return self.text.split("\n", 1)[0]
+
+    @property
+    def claim(self) -> Claim:
+        """What it claims of a bundle: nothing where its status is another than DONE."""
+        return claimed(self.text) if self.status == DONE else NO_CLAIM
 
 
 class NoProgram(Exception):
@@ -105,6 +111,16 @@ def ask(words: list[str], text: str, seconds: float | None = None) -> Answer:
     return Answer(run.stdout.decode(errors="replace"), ended(run.returncode))
 
 
+def needs_claim(status: int, claim: Claim) -> None:
+    """NoProgram where a status says that a bundle is certified, and no line does."""
+    if status == DONE and not claim:
+        raise NoProgram(
+            f"{program_path()} isn't the program: it ended with status {DONE}, and printed no `certified` or `stable`"
+        )
+
+
 def check(bundle_line: str) -> Answer:
-    """The program's verdict on a bundle's line."""
-    return ask(["check"], bundle_line + "\n")
+    """The program's verdict on a bundle's line; where its status is DONE, a claim stands in its text."""
+    answer = ask(["check"], bundle_line + "\n")
+    needs_claim(answer.status, answer.claim)
+    return answer

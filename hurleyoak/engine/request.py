@@ -5,6 +5,7 @@ import os
 import re
 from dataclasses import dataclass, field
 
+from ..text.membersof import WITH
 from .words import split_values
 
 PROGRAM_WORDS = ("check", "show", "run", "watch", "settle", "play", "eval", "compile", "replay", "demo")
@@ -14,23 +15,25 @@ NUMBERED: tuple[str, ...] = ("--workers", "--shards", "--turns", "--seed")
 HELPERS = "--helpers"
 STEPS = "--steps"
 TWICE = "--twice"
+TEXT = "--text"
 FLAGS: dict[str, tuple[str, ...]] = {
     "check": (TWICE,),
     "play": (STEPS,),
-    "compile": ("--flocks", "--succinct", "--plain", HELPERS),
+    "compile": ("--flocks", "--succinct", "--quick", "--plain", HELPERS, TEXT),
     "replay": ("--watched",),
 }
 VALUED = (*NUMBERED, HELPERS)
 OUTPUT = ("-o", "--output")
+TAKES_PROTOCOL = ("check", "show", "run", "watch", "settle", "play")
 USAGE = {
-    "check": "pop check FILE [--twice]",
-    "show": "pop show FILE",
-    "run": "pop run FILE x=30 y=10 [--workers N] [--shards N] [--turns N] [--seed N]",
-    "watch": "pop watch FILE x=30 y=10 [--workers N] [--shards N] [--turns N] [--seed N]",
-    "settle": "pop settle FILE x=30 y=10",
-    "play": "pop play FILE x=2 y=1 0,2 1,2 [--steps]",
+    "check": "pop check FILE [--twice] [--with m=5]",
+    "show": "pop show FILE [--with m=5]",
+    "run": "pop run FILE x=30 y=10 [--workers N] [--shards N] [--turns N] [--seed N] [--with m=5]",
+    "watch": "pop watch FILE x=30 y=10 [--workers N] [--shards N] [--turns N] [--seed N] [--with m=5]",
+    "settle": "pop settle FILE x=30 y=10 [--with m=5]",
+    "play": "pop play FILE x=2 y=1 0,2 1,2 [--steps] [--with m=5]",
     "eval": "pop eval 'x - y < 3' x=2 y=1",
-    "compile": "pop compile 'x - y < 3' [--succinct | --plain | --flocks] [--helpers none] [-o FILE]",
+    "compile": "pop compile 'x - y < 3' [--succinct | --quick | --plain | --flocks] [--helpers none] [--text] [-o FILE]",
     "replay": "pop replay FILE [--watched]",
     "demo": "pop demo N",
 }
@@ -44,7 +47,7 @@ class WordFault(Exception):
 
 @dataclass
 class Request:
-    """What was asked. `options` go to the program as they are."""
+    """What was asked. `options` go to the program as they are; `member` chooses one of a family."""
 
     command: str
     options: list[str] = field(default_factory=list)
@@ -52,6 +55,7 @@ class Request:
     counts: list[str] = field(default_factory=list)
     meetings: list[str] = field(default_factory=list)
     output: str | None = None
+    member: str | None = None
     is_help: bool = False
 
     @property
@@ -64,14 +68,14 @@ class Request:
     @property
     def words(self) -> list[str]:
         """The program's words, without those that are the workbench's."""
-        ours = {"play": STEPS, "check": TWICE}.get(self.command)
+        ours = {"play": STEPS, "check": TWICE, "compile": TEXT}.get(self.command)
         return [self.command, *(word for word in self.options if word != ours)]
 
 
 def read_request(arguments: list[str]) -> Request:
     """Sorts the words; WordFault where one has no place."""
     out = Request(arguments[0])
-    rest = iter(split_values(arguments[1:], (*VALUED, OUTPUT[1])))
+    rest = iter(split_values(arguments[1:], (*VALUED, OUTPUT[1], WITH)))
     for word in rest:
         if word in ("--help", "-h"):
             out.is_help = True
@@ -79,6 +83,10 @@ def read_request(arguments: list[str]) -> Request:
             out.output = next(rest, None)
             if out.output is None:
                 raise WordFault(f"`{word}` is followed by the file to write: {USAGE['compile']}")
+        elif word == WITH and out.command in TAKES_PROTOCOL:
+            out.member = next(rest, None)
+            if out.member is None:
+                raise WordFault(f"`{word}` is followed by values of parameters, as in `m=5,r=1`")
         elif (
             word.startswith("-")
             and len(word) > 1

@@ -3,15 +3,17 @@ from __future__ import annotations
 
 import hashlib
 import os
+from enum import Enum
 from pathlib import Path
 from typing import Iterator
 
-from .places import BUILT, KEPT, TOP
+from .places import BUILT, KERNEL, TOP
 
 CRATES = TOP / "crates"
 LIST = TOP / "crates.txt"
-RECORD = KEPT / "sources"
+RECORD = BUILT.with_name("pop_main.built")
 ENDINGS = (".rt", ".antt")
+MAIN, KERNEL_CRATE = "pop_main", "pop_kernel"
 
 
 def source_files() -> Iterator[Path]:
@@ -47,33 +49,45 @@ def checksum() -> str:
     whole = hashlib.sha256()
     for path in source_files():
         whole.update(str(path.relative_to(TOP)).encode() + b"\0")
-        whole.update(hashlib.sha256(path.read_bytes()).digest())
+        whole.update(bytes.fromhex(_hash(path)))
     return whole.hexdigest()
 
 
-def _stamp(program: Path) -> str:
-    status = program.stat()
-    return f"{status.st_size} {status.st_mtime_ns}"
+def _hash(path: Path) -> str:
+    return hashlib.sha256(path.read_bytes()).hexdigest()
 
 
 def record(sources: str) -> None:
-    """Notes of which sources the built program is."""
-    KEPT.mkdir(parents=True, exist_ok=True)
-    RECORD.write_text(f"{sources} {_stamp(BUILT)}\n")
+    """Notes beside the built program its checksum, and that of the sources from which it was built."""
+    RECORD.write_text(f"program {_hash(BUILT)}\nsources {sources}\n")
 
 
-def newer_source() -> Path | None:
-    """A source file that changed after the program was built."""
-    built = BUILT.stat().st_mtime_ns
-    return next((path for path in source_files() if path.stat().st_mtime_ns > built), None)
+class Origin(Enum):
+    """What is known of the sources from which the built program was made."""
+
+    SAME = "these sources"
+    OLDER = "other sources"
+    UNKNOWN = "the program isn't the one that its build noted"
+
+
+def origin() -> Origin:
+    """From which sources the built program was made, by the checksums that its build noted; times say nothing."""
+    try:
+        noted = dict(line.split(" ", 1) for line in RECORD.read_text(encoding="ascii").splitlines())
+        if noted.get("program") != _hash(BUILT):
+            return Origin.UNKNOWN
+    except (OSError, ValueError):
+        return Origin.UNKNOWN
+    return Origin.SAME if noted.get("sources") == checksum() else Origin.OLDER
 
 
 def is_of_sources() -> bool:
-    """Whether the built program is there and that of the sources: by checksum where its build was noted, else by
-    time."""
-    if not os.access(BUILT, os.X_OK):
-        return False
-    noted, _, stamp = RECORD.read_text().strip().partition(" ") if RECORD.exists() else ("", "", "")
-    if noted and stamp == _stamp(BUILT):
-        return noted == checksum()
-    return newer_source() is None
+    """Whether the built program is there, and known to be that of the sources, and the kernel beside it."""
+    return all(os.access(path, os.X_OK) for path in programs().values()) and origin() is Origin.SAME
+
+
+def programs() -> dict[str, Path]:
+    """The programs by their crates, and where they stand once they are built: the main one, and the kernel where the list
+    of crates has it."""
+    has_kernel = LIST.exists() and needed(KERNEL_CRATE)
+    return {MAIN: BUILT, KERNEL_CRATE: KERNEL} if has_kernel else {MAIN: BUILT}

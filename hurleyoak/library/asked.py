@@ -8,12 +8,11 @@ from typing import TYPE_CHECKING, Iterable, Mapping, Sequence
 from ..faults import InputFault
 from ..simulation.carrying import Limits
 from ..simulation.limits import CHANGES_ASKED, MEETING_LIMIT, SEED_LIMIT
-from ..simulation.simulation import AGREED, ENDLESS, MEETINGS, TERMINAL, Stop
-from ..text.families import member_name
+from ..simulation.simulation import AGREED, ENDLESS, MEETINGS, SETTLED, TERMINAL, Stop
 from ..text.files import load, read_text
 from ..text.given import read_given
 from ..text.loaded import Loaded
-from ..text.membersof import load_member, members_of
+from ..text.membersof import as_words, load_member, members_of
 from ..text.relaxed import in_form
 
 if TYPE_CHECKING:
@@ -25,6 +24,8 @@ Size = dict[str, int]
 
 def whole(name: str, value: object, low: int, high: int) -> int:
     """The whole number that an argument is, from `low` to `high`."""
+    if isinstance(value, float) and value.is_integer():
+        value = int(value)
     try:
         number = index(value)  # type: ignore[arg-type]
     except TypeError:
@@ -58,12 +59,15 @@ def meetings(value: object) -> int:
 
 
 def limits(until: object, changes: object) -> Limits:
-    """Where a run stops: at the end, or where all agree, or after so many meetings; and after so many changes."""
-    most = None if changes is None else whole("changes", changes, 0, CHANGES_ASKED)
-    if until in (TERMINAL, AGREED):
+    """Where a run stops: at the end, or where all agree, where outputs stay, or after so many meetings; and after so
+    many changes."""
+    usual = None if until is None else ENDLESS
+    most = usual if changes is None else whole("changes", changes, 0, CHANGES_ASKED)
+    until = TERMINAL if until is None else until
+    if until in (TERMINAL, AGREED, SETTLED):
         return Limits(Stop(str(until)), ENDLESS, most)
     if isinstance(until, str):
-        raise InputFault(f"`until` is 'terminal', 'agreed' or a number of meetings, found {until!r}")
+        raise InputFault(f"`until` is 'terminal', 'agreed', 'settled' or a number of meetings, found {until!r}")
     return Limits(MEETINGS, whole("until", until, 0, MEETING_LIMIT), most)
 
 
@@ -118,7 +122,7 @@ def one_protocol(text: str, name: str) -> Loaded:
     found = members_of(text, name)
     if len(found) > 1:
         raise InputFault(
-            f"{name} is a family of {len(found)} protocols: `bin/pop text {name} --with {member_name(found[0])}`"
+            f"{name} is a family of {len(found)} protocols: `bin/pop text {name} --with {as_words(found[0])}`"
             " writes one of them"
         )
     return load_member(text, found[0], name) if found else load(text, name)

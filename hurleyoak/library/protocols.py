@@ -2,7 +2,7 @@
 from __future__ import annotations
 
 from html import escape
-from typing import Any, Iterable
+from typing import TYPE_CHECKING, Any, Iterable, Mapping
 
 from ..compiler.drafts import NotBuilt as NoLeaf
 from ..compiler.whole import Helpers
@@ -16,18 +16,23 @@ from ..protocol.nets import Net
 from ..protocol.predicatereader import read_predicate
 from ..protocol.predicates import value_at
 from ..simulation.carrying import carry_out
+from ..simulation.kernelled import KernelRun
+from ..simulation.kernelled import carry_out as carry_out_by_kernel
 from ..simulation.crowds import counts_of, crowd_words
-from ..simulation.curves import Recorder
+from ..simulation.curves import Curve, Recorder
 from ..simulation.seeds import seed_of
 from ..simulation.simulation import AGENT_LIMIT, Simulation
 from ..simulation.sweepjobs import BY_SIMULATE, mark_of
 from ..text.given import with_predicate
 from ..text.loaded import Loaded, LoadedBundle, strict_bundle
 from ..text.relaxed import in_form
-from ..text.writer import text_of
+from ..text.writer import loaded_text
 from . import asked
 from .asked import Size
 from .results import Found, Refuted, Run, Runs, Table, Verdict
+
+if TYPE_CHECKING:
+    from .chains import Exact
 
 SECONDS, SMALLER, AGENTS, RUNS = 60.0, 4.0, 6, 20
 GIVEN = "the text"
@@ -82,7 +87,7 @@ class Protocol:
     def text(self) -> str:
         """The protocol as a `.pop` file, with its proof if it has a whole one."""
         loaded = self._loaded
-        return text_of(loaded.net, strict_bundle(loaded) if self.has_proof else None, loaded.labels)
+        return loaded_text(loaded, strict_bundle(loaded) if self.has_proof else None)
 
     @property
     def has_proof(self) -> bool:
@@ -97,36 +102,46 @@ class Protocol:
     def check(self) -> Verdict:
         """What the proved program says of the proof; InputFault where there is none."""
         _ready()
-        return _verdict(program.check(strict_bundle(self._loaded).line()).first_line)
+        return _verdict(program.check(strict_bundle(self._loaded).line()))
 
     def find(self, seconds: float = SECONDS, jobs: int | None = None) -> Found:
         """Looks for a proof, which the program certifies, and for a counterexample, which it plays."""
         _ready()
         from ..search.finding import find
         from ..search.processes import processors
-        from ..show.telling import failure_told
+        from ..show.telling import failure_told, left_out_told
 
         outcome = find(self._loaded, seconds, SMALLER, jobs or processors())
         if outcome.flaw is not None:
             refuted = self._refuted(outcome.flaw)
             return Found(None, None, refuted, refuted.told)
+        if outcome.left_out is not None:
+            return Found(None, None, None, left_out_told(self._loaded, outcome.left_out))
         if outcome.bundle is None:
             return Found(None, None, None, failure_told(self._loaded, outcome.failures[0]))
         line = outcome.bundle.line()
-        verdict = _verdict(program.check(line).first_line)
+        verdict = _verdict(program.check(line))
         protocol = Protocol.parse(line, self._loaded.name) if verdict else None
         return Found(protocol, verdict, None, verdict.line)
 
     def refute(self, agents: int = AGENTS, seconds: float = SECONDS) -> Refuted | None:
         """A counterexample among the inputs of up to so many agents, played by the program; None where none was found
-        in that time."""
+        in that time, InputFault where no input was tried."""
         _ready()
         from ..search.explore import explore
+        from ..search.limits import ending
         from ..search.whole import system_of
+        from ..show.telling import untried_told
 
         agents = asked.whole("agents", agents, max(0, AGENT_LEAST - len(self.net.leaves[0].helpers)), AGENT_LIMIT)
-        flaw, _ = explore(system_of(self.net), self._loaded.whole_tree(), agents, seconds, meets=self._loaded.meets)
-        return None if flaw is None else self._refuted(flaw)
+        tree = self._loaded.whole_tree()
+        with ending(seconds):
+            flaw, tried = explore(system_of(self.net), tree, agents, seconds, meets=self._loaded.meets)
+        if flaw is not None:
+            return self._refuted(flaw)
+        if untried := untried_told(self._loaded, tried):
+            raise InputFault(f"{self._loaded.name}: {untried}")
+        return None
 
     def _refuted(self, flaw: Any) -> Refuted:
         from ..search.playing import play
@@ -137,40 +152,81 @@ class Protocol:
         told = flaw_told(self.net, tree, self.predicate or "", flaw, played)
         return Refuted(dict(zip(self.net.names, flaw.counts)), told)
 
-    def simulate(self, seed: int = 0, until: str | int = "terminal", changes: int | None = None, **counts: int) -> Run:
-        """One run from so many agents for each variable; helpers are added. Measured, and not proved."""
-        seed, limits = asked.seed(seed), asked.limits(until, changes)
-        chosen = self._assumed(counts)
-        value = None
+    def simulate(
+        self,
+        seed: int = 0,
+        until: str | float | None = None,
+        changes: int | None = None,
+        start: Run | Mapping[str, int] | None = None,
+        events: Iterable[tuple[float, str]] = (),
+        volume: float | None = None,
+        graph: object = None,
+        rounds: bool = False,
+        kernel: bool = False,
+        **counts: int,
+    ) -> Run:
+        """One run from so many agents for each variable; helpers are added. Measured, and not proved.
+
+        Without `until` it goes to the terminal crowd, or to the usual limit of changes; `ended` says to which. It may
+        also begin with the agents in each state, or go on from a run; `events` are times with what happens then. On a
+        graph (a text as of `--graph`, or a graph of networkx) neighbours meet, and in rounds many pairs at once. A plain
+        run may be made by the kernel, from a stream of its own.
+        """
+        from .modelled import has_more, modelled
+
+        seed, events = asked.seed(seed), list(events)
+        if start is not None and counts:
+            raise InputFault("a run begins with `start` or with counts of variables, not with both")
+        chosen = None if start is not None else self._assumed(counts)
+        is_placed = graph is not None or rounds
+        if kernel and (chosen is None or events or volume is not None or is_placed or has_more(self._loaded, until)):
+            raise InputFault("the kernel makes plain runs from counts of variables")
+        if chosen is None or events or volume is not None or is_placed or has_more(self._loaded, until):
+            places = (graph, rounds)
+            return _run(*modelled(self._loaded, chosen, start, seed, until, changes, events, volume, places))
+        limits, value = asked.limits(until, changes), None
         if self.predicate is not None:
             value = value_at(read_predicate(self.predicate, self.net.names), chosen)
-        run, recorder = Simulation(self.net, chosen, seed), Recorder()
-        carry_out(run, limits, value, recorder.watch(run))
-        curve = recorder.curve(run, self._loaded.name, "", seed)
-        return Run(
-            crowd={run.reactions.name(word): k for word, k in run.crowd().items()},
-            agents=run.agents,
-            meetings=run.meetings,
-            changes=run.changes,
-            last_change=run.last_change,
-            agreed=run.since,
-            output=run.output,
-            terminal=run.is_terminal,
-            right=None if value is None else run.output == value,
-            times=[meetings / run.agents for meetings in curve.times],
-            curves={name: [row[i] for row in curve.rows] for i, name in enumerate(curve.names)},
-        )
+        recorder = Recorder()
+        run = KernelRun(self.net, chosen, seed, True) if kernel else Simulation(self.net, chosen, seed)
+        watch = recorder.watch(run)
+        if isinstance(run, KernelRun):
+            carry_out_by_kernel(run, limits, value, watch)
+        else:
+            carry_out(run, limits, value, watch)
+        return _run(run, recorder.curve(run, self._loaded.name, "", seed), value)
 
     def ensemble(
-        self, every: float, runs: int = RUNS, seed: int = 0, meetings: int | None = None, **counts: int
+        self,
+        every: float,
+        runs: int = RUNS,
+        seed: int = 0,
+        meetings: int | None = None,
+        volume: float | None = None,
+        graph: object = None,
+        rounds: bool = False,
+        jobs: int = 1,
+        kernel: bool = False,
+        **counts: int,
     ) -> Runs:
-        """Many runs, each looked at after every so many meetings per agent, up to its end or so many meetings."""
+        """Many runs, each looked at after every so many meetings per agent, up to its end or so many meetings. Of a
+        network, times are its own. The runs are shared among so many processes, and are the same with any number."""
         from ..simulation.ensembles import ensemble
 
         every, runs, seed, most = asked.step(every), asked.runs(runs), asked.seed(seed), asked.meetings(meetings)
         chosen = self._assumed(counts)
+        from .modelled import in_own_time, placing_of
+
+        agents = sum(chosen) + len(self.net.leaves[0].helpers)
+        placing = placing_of(graph, rounds, agents, seed, volume)
+        net, pace = in_own_time(self._loaded, agents, volume, placing)
+        if kernel and (placing or self._loaded.network is not None):
+            raise InputFault("the kernel makes plain runs from counts of variables")
+        name, jobs = self._loaded.name, asked.whole("jobs", jobs, 1, asked.RUN_LIMIT)
         try:
-            made = ensemble(self.net, chosen, seed, runs, every, most, self._loaded.name)
+            made = ensemble(
+                net, chosen, seed, runs, every, most, name, pace=pace, jobs=jobs, placing=placing, by_kernel=kernel
+            )
         except AskFault as fault:
             raise InputFault(str(fault)) from None
         by_state = {name: [[row[i] for row in rows] for rows in made.rows] for i, name in enumerate(made.names)}
@@ -186,7 +242,10 @@ class Protocol:
         met = [counts for counts in asked.sizes(sizes) if self._loaded.meets(self._counts(counts))]
         rows: list[dict[str, Any]] = []
         for counts in asked.shown(met, progress):
-            made = [self.simulate(self._stream(seed + k, counts), "terminal", None, **counts) for k in range(runs)]
+            made = [
+                self.simulate(self._stream(seed + k, counts), None, None, None, (), None, None, False, False, **counts)
+                for k in range(runs)
+            ]
             ends = sorted(float(run.last_change) for run in made if run.terminal)
             figures = {f"{part:.0%} end": quantile(ends, part) for part in (0.25, 0.5, 0.75)} if ends else {}
             wrong = sum(run.right is False for run in made) if self.predicate is not None else None
@@ -194,6 +253,22 @@ class Protocol:
                 {**counts, "agents": made[0].agents, "runs": runs, "ended": len(ends), "wrong": wrong, **figures}
             )
         return Table(rows)
+
+    def exact(
+        self, fractions: bool = False, after: int | None = None, volume: float | None = None, **counts: int
+    ) -> Exact:
+        """The Markov chain of a small crowd: chances of its ends and outputs, and the meetings to them. Computed, and
+        not proved."""
+        from .chains import exact
+
+        meetings = None if after is None else asked.meetings(after)
+        return exact(self._loaded, self._assumed(counts), fractions, meetings, volume)
+
+    def worst(self, agents: Iterable[int], fractions: bool = False) -> Table:
+        """The slowest of all inputs of so many agents, helpers among them, for each number."""
+        from .chains import worst
+
+        return worst(self._loaded, [asked.whole("agents", k, AGENT_LEAST, AGENT_LIMIT) for k in agents], fractions)
 
     def _stream(self, seed: int, counts: Size) -> int:
         """The seed with which `bin/pop sweep` runs the same."""
@@ -218,7 +293,7 @@ class Protocol:
         from ..show.explaining import bundle_to_explain, explain
 
         bundle = bundle_to_explain(self._loaded)
-        return drawn(explain(self._loaded, bundle, program.check(bundle.line()).first_line))
+        return drawn(explain(self._loaded, bundle, program.check(bundle.line()).text))
 
     def __repr__(self) -> str:
         leaves = self.net.leaves
@@ -231,10 +306,28 @@ class Protocol:
         return f"<pre>{escape(self.text())}</pre>"
 
 
-def _verdict(line: str) -> Verdict:
-    word, _, rest = line.partition(" ")
-    certified, stable = word == "certified", word == "stable"
-    return Verdict(line, certified, int(rest) if certified or stable else None, stable)
+def _run(run: Simulation, curve: Curve, value: bool | None) -> Run:
+    """A simulation at its end."""
+    return Run(
+        crowd={run.reactions.name(word): k for word, k in run.crowd().items()},
+        agents=run.agents,
+        meetings=run.meetings,
+        changes=run.changes,
+        last_change=run.last_change,
+        agreed=run.since,
+        output=run.output,
+        terminal=run.is_terminal,
+        ended=str(run.ended),
+        right=None if value is None else run.output == value,
+        times=curve.places,
+        curves={name: [row[i] for row in curve.rows] for i, name in enumerate(curve.names)},
+    )
+
+
+def _verdict(answer: program.Answer) -> Verdict:
+    claim = answer.claim
+    bound = claim.bound if claim else None
+    return Verdict(answer.first_line, claim.is_certified, bound, claim.is_stable, claim.is_tame)
 
 
 def load(path: str) -> Protocol:
@@ -278,7 +371,7 @@ def refute(path: str, agents: int = AGENTS, seconds: float = SECONDS) -> Refuted
 
 def simulate(path: str, seed: int = 0, **counts: int) -> Run:
     """One run of the protocol in a file."""
-    return load(path).simulate(seed, "terminal", None, **counts)
+    return load(path).simulate(seed, None, None, None, (), None, None, False, False, **counts)
 
 
 def sweep(path: str, runs: int = RUNS, **sizes: int | Iterable[int]) -> Table:

@@ -3,8 +3,12 @@ from __future__ import annotations
 
 from dataclasses import dataclass, field
 from html import escape
+from statistics import pstdev
 from typing import TYPE_CHECKING, Any, Iterator
 
+from ..faults import InputFault
+from ..simulation.ensembles import HIGH, LOW, MIDDLE
+from ..simulation.growth import quantile
 from .asked import frames
 
 if TYPE_CHECKING:
@@ -16,12 +20,19 @@ if TYPE_CHECKING:
 @dataclass(frozen=True)
 class Verdict:
     """The program's line on a bundle, which is true where it is certified or stable. `stable` says that outputs come
-    to rest while agents may go on changing. `bound` is the number behind the word: steps for each agent."""
+    to rest while agents may go on changing. `bound` is the number behind the word: steps for each agent. `tame` says
+    that random meetings come to the end in cubic time."""
 
     line: str
     certified: bool
     bound: int | None
     stable: bool = False
+    tame: bool = False
+
+    def meetings(self, agents: int) -> int | None:
+        """How many random meetings of so many agents, helpers among them, lead to the end on average at most: proved.
+        None where nothing is proved of it."""
+        return self.bound * agents * agents * (agents - 1) // 2 if self.tame and self.bound is not None else None
 
     def __repr__(self) -> str:
         return self.line
@@ -60,7 +71,8 @@ class Found:
 @dataclass(frozen=True, kw_only=True)
 class Run:
     """A simulated run. `crowd` has the number of agents for each state at the end; `agreed` is the meeting since which
-    all output the same."""
+    all output the same. `ended` says why it stopped: terminal, agreed, settled (no output can change any more),
+    meetings or changes (the limit of these)."""
 
     crowd: dict[str, int]
     agents: int
@@ -70,6 +82,7 @@ class Run:
     agreed: int | None
     output: bool | None
     terminal: bool
+    ended: str
     right: bool | None
     times: list[float] = field(repr=False, default_factory=list)
     curves: dict[str, list[int]] = field(repr=False, default_factory=dict)
@@ -85,7 +98,7 @@ class Run:
 
     def _repr_html_(self) -> str:
         rows = "".join(f"<tr><td>{escape(name)}</td><td>{count:,}</td></tr>" for name, count in self.crowd.items())
-        end = "terminal" if self.terminal else "not terminal"
+        end = "terminal" if self.terminal else f"not terminal, ended by {self.ended}"
         return (
             f"<table><tr><th>state</th><th>agents</th></tr>{rows}</table>"
             f"<p>{self.meetings:,} meetings, {self.parallel_time:.4g} for each agent; {end}; measured, not proved</p>"
@@ -109,6 +122,16 @@ class Runs:
         """The mean number of agents in a state at each time."""
         return [sum(now) / len(now) for now in zip(*self.counts[state])]
 
+    def deviation(self, state: str) -> list[float]:
+        """The standard deviation among the runs at each time."""
+        return [pstdev(now) for now in zip(*self.counts[state])]
+
+    def quantile(self, state: str, part: float) -> list[float]:
+        """The number of agents in a state below which so great a part of the runs is, at each time."""
+        if not 0 <= part <= 1:
+            raise InputFault(f"a quantile is of a part from 0 to 1, found {part!r}")
+        return [quantile(sorted(map(float, now)), part) for now in zip(*self.counts[state])]
+
     def frame(self) -> DataFrame:
         """A table of pandas: a row for each run and time, a column for each state."""
         frame = frames()
@@ -118,18 +141,23 @@ class Runs:
         return frame({name: [k for run in runs for k in run] for name, runs in self.counts.items()}, index=index)
 
     def _repr_html_(self) -> str:
-        rows = "".join(f"<tr><td>{escape(name)}</td><td>{self.mean(name)[-1]:,.4g}</td></tr>" for name in self.counts)
+        rows = ""
+        for name in self.counts:
+            figures = [self.mean(name)[-1], *(self.quantile(name, part)[-1] for part in (LOW, MIDDLE, HIGH))]
+            rows += f"<tr><td>{escape(name)}</td>{''.join(f'<td>{figure:,.4g}</td>' for figure in figures)}</tr>"
+        parts = "".join(f"<th>{part:.0%}</th>" for part in (LOW, MIDDLE, HIGH))
         return (
-            f"<table><tr><th>state</th><th>mean at the end</th></tr>{rows}</table>"
+            f"<table><tr><th>state</th><th>mean at the end</th>{parts}</tr>{rows}</table>"
             f"<p>{len(self)} runs of {self.agents:,} agents, {self.terminal} of them ended; measured, not proved</p>"
         )
 
 
 @dataclass(frozen=True)
 class Table:
-    """Runs over sizes: a row for each size, with quartiles of the meetings to the end."""
+    """A row for each size: of runs, with quartiles of the meetings to the end, or of the slowest inputs."""
 
     rows: list[dict[str, Any]]
+    source: str = "measured, not proved"
 
     def frame(self) -> DataFrame:
         """The rows as a table of pandas."""
@@ -146,4 +174,4 @@ class Table:
             return "<p>no runs</p>"
         head = "".join(f"<th>{escape(name)}</th>" for name in self.rows[0])
         body = "".join("<tr>" + "".join(f"<td>{cell}</td>" for cell in row.values()) + "</tr>" for row in self.rows)
-        return f"<table><tr>{head}</tr>{body}</table><p>measured, not proved</p>"
+        return f"<table><tr>{head}</tr>{body}</table><p>{self.source}</p>"

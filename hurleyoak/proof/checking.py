@@ -247,7 +247,7 @@ def predicates_agree(net: Net, bundle: Bundle) -> bool:
 
 
 def verdict(bundle: Bundle) -> str:
-    """The line that the program is expected to print; only the program's own line counts."""
+    """The first line that the program is expected to print; only the program's own line counts."""
     for i, (leaf, part) in enumerate(zip(bundle.net.leaves, bundle.proof)):
         words = part_fault(leaf, part, read_predicate(part.pred, bundle.net.names))
         if words:

@@ -72,6 +72,12 @@ class Leaf:
         return frozenset(self.active)
 
     @cached_property
+    def is_single(self) -> bool:
+        """Whether no two of its moves that change something take the same two states."""
+        moves = {self.moves[t] for t in self.active}
+        return len({pair(*move[:2]) for move in moves}) == len(moves)
+
+    @cached_property
     def partners(self) -> tuple[frozenset[int], ...]:
         """For each state those that it reacts with, itself among them where two of it react."""
         out: list[set[int]] = [set() for _ in self.states]

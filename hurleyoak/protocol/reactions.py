@@ -24,13 +24,13 @@ def leaf_table(leaf: Leaf) -> dict[tuple[int, int], tuple[int, int]]:
     return table
 
 
-def _matching(leaf: Leaf) -> dict[tuple[int, int], list[int]]:
-    """For the states of the initiator and of the responder the numbers of the moves that match; silent ones if they
-    have a chance."""
+def _matching(leaf: Leaf, swaps: bool = False) -> dict[tuple[int, int], list[int]]:
+    """For the states of the initiator and of the responder the numbers of the moves that match. Silent ones are among
+    them if they have a chance, or if swaps are wanted and they are one."""
     out: dict[tuple[int, int], list[int]] = {}
-    for t, (p, q, _, _) in enumerate(leaf.moves):
+    for t, (p, q, r, s) in enumerate(leaf.moves):
         law = leaf.laws[t] if leaf.laws else PLAIN
-        if t in leaf.active_set or law.chance is not None:
+        if t in leaf.active_set or law.chance is not None or swaps and p != q and (r, s) == (q, p):
             out.setdefault((p, q), []).append(t)
             if p != q and not law.ordered:
                 out.setdefault((q, p), []).append(t)
@@ -54,14 +54,14 @@ Outcome = tuple[tuple[int, int], Fraction]
 Way = tuple[int, tuple[int, int], Fraction]
 
 
-def leaf_ways(leaf: Leaf) -> dict[tuple[int, int], list[Way]]:
+def leaf_ways(leaf: Leaf, swaps: bool = False) -> dict[tuple[int, int], list[Way]]:
     """For the states of the initiator and of the responder the moves they may take, what they become, and by which
     chance.
 
     Moves without a chance have equal parts of what those with one leave.
     """
     out: dict[tuple[int, int], list[Way]] = {}
-    for (p, q), moves in _matching(leaf).items():
+    for (p, q), moves in _matching(leaf, swaps).items():
         laws = [leaf.laws[t] if leaf.laws else PLAIN for t in moves]
         left = 1 - sum((law.chance for law in laws if law.chance is not None), Fraction(0))
         free = sum(law.chance is None for law in laws)
@@ -72,10 +72,10 @@ def leaf_ways(leaf: Leaf) -> dict[tuple[int, int], list[Way]]:
     return out
 
 
-def leaf_outcomes(leaf: Leaf) -> dict[tuple[int, int], list[Outcome]]:
+def leaf_outcomes(leaf: Leaf, swaps: bool = False) -> dict[tuple[int, int], list[Outcome]]:
     """The same without the moves; where chances are left, nothing happens instead, so that they make 1."""
     out: dict[tuple[int, int], list[Outcome]] = {}
-    for both, ways in leaf_ways(leaf).items():
+    for both, ways in leaf_ways(leaf, swaps).items():
         out[both] = [(made, chance) for _, made, chance in ways]
         left = 1 - sum((chance for _, _, chance in ways), Fraction(0))
         if left:
@@ -84,12 +84,12 @@ def leaf_outcomes(leaf: Leaf) -> dict[tuple[int, int], list[Outcome]]:
 
 
 class Reactions:
-    """The reactions of a net, by words."""
+    """The reactions of a net, by words; with those that only swap two states where it matters who has which."""
 
-    def __init__(self, net: Net) -> None:
+    def __init__(self, net: Net, swaps: bool = False) -> None:
         self.net = net
         self.tables = [leaf_table(leaf) for leaf in net.leaves]
-        self.choices = [leaf_outcomes(leaf) for leaf in net.leaves]
+        self.choices = [leaf_outcomes(leaf, swaps) for leaf in net.leaves]
 
     def after(self, first: Word, second: Word) -> tuple[Word, Word] | None:
         """The two words after a meeting; None where it changes nothing.
@@ -125,6 +125,11 @@ class Reactions:
         shares = [int(chance * whole) for _, chance in out]
         common = gcd(*shares)
         return [(made, share // common) for (made, _), share in zip(out, shares)]
+
+    def both_ways(self, first: Word, second: Word) -> set[Word]:
+        """The words that come of a meeting of the two, whichever of them begins it."""
+        made = self.options(first, second) + self.options(second, first)
+        return {word for words, _ in made for word in words}
 
     def output(self, word: Word) -> bool:
         """What an agent with this word outputs."""

@@ -240,6 +240,7 @@ def explore(
             if not meets(counts):
                 left_out += 1
                 continue
+            tried.met += 1
             found = flaw_of(leaf, tree, counts, stop)
             if isinstance(found, Flaw) and found.kind == RESTLESS:
                 tried.restless = tried.restless or found

@@ -27,13 +27,20 @@ ORDER = (
 
 @dataclass
 class Outcome:
-    """A bundle that no one has certified yet; or a flaw of the net; or failures, the one to be told first."""
+    """A bundle that no one has certified yet; or a flaw of the net; or failures, the one to be told first. `left_out` is
+    a flaw at an input that the file leaves out."""
 
     bundle: Bundle | None = None
     flaw: Flaw | None = None
+    left_out: Flaw | None = None
     failures: list[Result] = field(default_factory=list)
     done: dict[tuple[TaskKind, int], Result] = field(default_factory=dict)
     seconds: float = 0.0
+
+    @property
+    def is_flawed(self) -> bool:
+        """Whether the net is wrong at some input, so that no certificate is possible."""
+        return self.flaw is not None or self.left_out is not None
 
     def told(self) -> list[str]:
         """What was found of each leaf, in a line."""
@@ -50,6 +57,18 @@ class Outcome:
                 f" ({true.seconds:.1f} s, {false.seconds:.1f} s)"
             )
         return out
+
+    def so_far(self) -> list[str]:
+        """What was found of the leaves where not all was, in a line each."""
+        return [
+            f"found so far: leaf {at}: " + (_goal_told(result) if result.goal else _part_told(result))
+            for (_, at), result in sorted(self.done.items())
+            if not result.why and (result.layers or result.tree or result.goal)
+        ]
+
+
+def _part_told(result: Result) -> str:
+    return f"{len(result.layers)} layers" if result.layers else f"the tree for {result.kind}, {len(result.tree)} nodes"
 
 
 def _goal_told(result: Result) -> str:
@@ -73,33 +92,33 @@ def drafts_of(loaded: Loaded, anew: bool) -> list[ProofDraft]:
     return loaded.drafts
 
 
-def tasks_of(loaded: Loaded, drafts: list[ProofDraft], seconds: float, small: float) -> list[Task]:
+def tasks_of(loaded: Loaded, drafts: list[ProofDraft], seconds: float, small: float, tame: bool = False) -> list[Task]:
     """The tasks, small crowds first, as they answer soonest: those of the whole net, and of each leaf where there are
     several."""
-    trees = loaded.part_trees()
-    net, whole = loaded.net, loaded.whole_tree()
-    both = list(enumerate(zip(net.leaves, trees)))
+    shared = shared_tasks(loaded, seconds, small, tame)
     tasks = [whole_task(loaded, seconds, small)]
-    if len(both) > 1:
-        tasks += [Task(FLAW, i, leaf, tree, seconds, small, net=net, whole=whole) for i, (leaf, tree) in both]
-    for task, draft in zip(shared_tasks(loaded, seconds, small), drafts):
+    if len(shared) > 1:
+        tasks += [task.like(FLAW) for task in shared]
+    for task, draft in zip(shared, drafts):
         tasks += leaf_tasks(task, draft)
     return tasks
 
 
-def shared_tasks(loaded: Loaded, seconds: float, small: float) -> list[Task]:
+def shared_tasks(loaded: Loaded, seconds: float, small: float, tame: bool = False) -> list[Task]:
     """For each leaf what its tasks share."""
     trees, net, whole = loaded.part_trees(), loaded.net, loaded.whole_tree()
+    assumed = loaded.assumed_trees
     return [
-        Task(LAYERS, i, leaf, tree, seconds, small, net=net, whole=whole)
+        Task(LAYERS, i, leaf, tree, seconds, small, net=net, whole=whole, assumed=assumed, tame=tame)
         for i, (leaf, tree) in enumerate(zip(net.leaves, trees))
     ]
 
 
 def whole_task(loaded: Loaded, seconds: float, small: float) -> Task:
     """Small crowds of the whole net."""
-    whole = loaded.whole_tree()
-    return Task(FLAW, WHOLE, loaded.net.leaves[0], whole, seconds, small, net=loaded.net, whole=whole)
+    net, whole = loaded.net, loaded.whole_tree()
+    assumed = loaded.assumed_trees
+    return Task(FLAW, WHOLE, net.leaves[0], whole, seconds, small, net=net, whole=whole, assumed=assumed)
 
 
 def find(
@@ -111,15 +130,20 @@ def find(
     begins: Callable[[list[Task]], None] | None = None,
     came: Callable[[Result], None] | None = None,
     going: Going | None = None,
+    tame: bool = False,
 ) -> Outcome:
-    """What came of it; InputFault where the input has no predicate, or predicates that don't fit.
+    """What came of it; InputFault where the input has no predicate, or predicates that don't fit. With `tame` no other
+    layers will do, and no goals.
 
-    `begins` is told which tasks there are, `came` what came of each, and `going` how far each is.
+    It ends after so many seconds, by the wall and by the processor. `begins` is told which tasks there are, `came` what
+    came of each, and `going` how far each is.
     """
     start = time.time()
+    end = time.monotonic() + seconds
     if loaded.predicate is not None and (loaded.parts is None or predicates_differ(loaded)):
-        out = Outcome(flaw=work(whole_task(loaded, seconds, small)).flaw, seconds=time.time() - start)
-        if out.flaw is not None:
+        tried = work(whole_task(loaded, seconds, small))
+        out = Outcome(flaw=tried.flaw, left_out=tried.left_out, seconds=time.time() - start)
+        if out.is_flawed:
             return out
         loaded.part_trees()
         raise InputFault(
@@ -127,7 +151,7 @@ def find(
             ' "How a predicate becomes a tree")'
         )
     drafts = drafts_of(loaded, anew)
-    tasks = tasks_of(loaded, drafts, seconds, small)
+    tasks = tasks_of(loaded, drafts, seconds, small, tame)
     # (before processes are made, so that they share what is loaded, and a missing package is told once)
     import_module(".highs", __package__)
     import_module(".layerjob", __package__)
@@ -135,25 +159,25 @@ def find(
     import_module(".goaljob", __package__)
     if begins:
         begins(tasks)
-    out = _done(tasks, results(tasks, jobs, going), came)
-    if out.flaw is None and out.failures:
+    out = _done(tasks, results(tasks, jobs, end, going), came)
+    if not out.is_flawed and out.failures and not tame:
 
         def run(more: list[Task]) -> Iterator[Result]:
             if begins and more:
                 begins(more)
-            for result in results(more, jobs, going):
+            for result in results(more, jobs, end, going):
                 if came:
                     came(result)
                 yield result
 
         shared = shared_tasks(loaded, seconds, small)
         looked = look_for_goals(shared, drafts, out.failures, out.done, run)
-        out.flaw = looked.flaw
+        out.flaw, out.left_out = looked.flaw, looked.left_out
         if looked.is_done:
             out.failures = []
         elif looked.failure is not None:
             out.failures.insert(0, looked.failure)
-    if out.flaw is None and not out.failures:
+    if not out.is_flawed and not out.failures:
         out.bundle = _assembled(loaded, out)
     out.seconds = time.time() - start
     return out
@@ -167,8 +191,8 @@ def _done(tasks: list[Task], coming: Iterator[Result], came: Callable[[Result], 
         if came:
             came(result)
         out.done[result.kind, result.at] = result
-        if result.flaw is not None:
-            out.flaw = result.flaw
+        out.flaw, out.left_out = result.flaw, result.left_out
+        if out.is_flawed:
             break
         if result.why:
             out.failures.append(result)

@@ -47,10 +47,12 @@ class Flaw:
 
 @dataclass
 class Tried:
-    """What was tried without a flaw: up to how many agents in full, how many inputs and crowds in all. `restless` is
-    the first crowd whose outputs are at rest while its agents change forever."""
+    """What was tried without a flaw: up to how many agents in full, how many inputs and crowds in all. `met` counts the
+    inputs that meet what is assumed, those of too many crowds among them. `restless` is the first crowd whose outputs
+    are at rest while its agents change forever."""
 
     agents: int = 0
+    met: int = 0
     inputs: int = 0
     crowds: int = 0
     restless: Flaw | None = None

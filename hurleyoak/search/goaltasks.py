@@ -42,10 +42,12 @@ def _is_hopeless(result: Result) -> bool:
 
 
 class Looked(NamedTuple):
-    """What came of it: whether all leaves have a proof now; or a flaw; or why a written goal has no tree."""
+    """What came of it: whether all leaves have a proof now; or a flaw; or why a written goal has no tree. `left_out` is
+    a flaw at an input that the file leaves out."""
 
     is_done: bool = False
     flaw: Flaw | None = None
+    left_out: Flaw | None = None
     failure: Result | None = None
 
 
@@ -60,8 +62,8 @@ def look_for_goals(
     others = [task for task in tasks if task.at not in restless]
     for result in run([one for task in others for one in leaf_tasks(task, drafts[task.at]) if _is_due(one, done)]):
         done[result.kind, result.at] = result
-        if result.flaw is not None:
-            return Looked(flaw=result.flaw)
+        if result.flaw is not None or result.left_out is not None:
+            return Looked(flaw=result.flaw, left_out=result.left_out)
         if _is_hopeless(result):
             return Looked()
     restless |= {at for kind, at in done if kind in KINDS and done[kind, at].why}

@@ -1,12 +1,13 @@
 """The work of `find` cut into tasks: small crowds, layers, and two trees or goals for each leaf."""
 from __future__ import annotations
 
+import time
 from dataclasses import dataclass, field, replace
 from enum import StrEnum
 from typing import Any, Sequence
 
 from ..protocol.nets import Leaf, Net
-from ..protocol.predicates import Predicate
+from ..protocol.predicates import Predicate, value_at
 from ..text.proofreader import GoalDraft, LayerDraft
 from ..text.treereader import DraftNode
 from ..proof.bundles import Goal, Layer, Tree
@@ -41,7 +42,8 @@ ENTRY_SECONDS = 15.0
 
 @dataclass
 class Task:
-    """One task of one leaf, or of the whole net; `net` and `whole` are the net and its predicate."""
+    """One task of one leaf, or of the whole net; `net` and `whole` are the net and its predicate, and `assumed` what
+    its file assumes of inputs."""
 
     kind: TaskKind
     at: int
@@ -54,7 +56,13 @@ class Task:
     goal: GoalDraft | None = None
     net: Net | None = None
     whole: Predicate | None = None
+    tame: bool = False  # whether its layers have to be tame
+    assumed: tuple[Predicate, ...] = ()
     depth: int = 0  # of `first` in a goal's tree, where the tree for all moves needs some
+
+    def meets(self, counts: Sequence[int]) -> bool:
+        """Whether an input is one of those that count."""
+        return all(value_at(tree, counts) for tree in self.assumed)
 
     def like(self, kind: TaskKind, **parts: Any) -> "Task":
         """A task of the same leaf with what is given of its part."""
@@ -76,7 +84,8 @@ class Why(StrEnum):
 class Result:
     """What came of a task; `why` is None if it was done.
 
-    `flaw` is one of the whole net, `missed` one of a leaf for its own predicate.
+    `flaw` is one of the whole net, `missed` one of a leaf for its own predicate. `left_out` is a flaw of the net at an
+    input that its file leaves out: no counterexample, but no certificate is possible either.
     """
 
     kind: TaskKind
@@ -86,6 +95,7 @@ class Result:
     tree: Tree = ()
     goal: Goal | None = None
     flaw: Flaw | None = None
+    left_out: Flaw | None = None
     missed: Flaw | None = None
     restless: Flaw | None = None
     tried: Tried = field(default_factory=Tried)
@@ -111,7 +121,9 @@ def _layers(task: Task, result: Result, deadline: float) -> None:
 
     try:
         result.layers = (
-            find_layers(task.leaf, deadline) if task.layers is None else fill_layers(task.leaf, task.layers, deadline)
+            find_layers(task.leaf, deadline, task.tame)
+            if task.layers is None
+            else fill_layers(task.leaf, task.layers, deadline, task.tame)
         )
     except NoLayers as none:
         result.why, result.told, result.moves, result.are_none = Why.NO_LAYERS, none.told, none.moves, none.is_shown
@@ -196,13 +208,12 @@ def _small(task: Task, result: Result) -> None:
     """Small crowds: of the whole net, or of a leaf for its own predicate."""
     assert task.net is not None and task.whole is not None
     system, tree = (system_of(task.net), task.whole) if task.at == WHOLE else (task.leaf, task.tree)
+    seconds = min(FLAW_SECONDS, task.seconds / 10)
     flaw, result.tried = explore(
-        system,
-        tree,
-        FLAW_AGENTS,
-        min(FLAW_SECONDS, task.seconds / 10),
-        lambda tried, agents: howfar.note((agents - 1) / FLAW_AGENTS),
+        system, tree, FLAW_AGENTS, seconds, lambda tried, agents: howfar.note((agents - 1) / FLAW_AGENTS), task.meets
     )
+    if flaw is None and task.assumed:
+        flaw, _ = explore(system, tree, FLAW_AGENTS, seconds, meets=lambda counts: not task.meets(counts))
     if flaw is not None and task.at == WHOLE:
         result.flaw = flaw
     elif flaw is not None:
@@ -211,11 +222,18 @@ def _small(task: Task, result: Result) -> None:
         result.why, result.restless = Why.RESTLESS, result.tried.restless
 
 
+def cut(task: Task, told: str) -> Result:
+    """What comes of a task that was ended. Small crowds that weren't tried are no reason against a proof."""
+    layers = {LAYERS: Why.NO_LAYERS, GOAL_TRUE: Why.NO_GOAL, GOAL_FALSE: Why.NO_GOAL}
+    why = None if task.kind == FLAW else layers.get(task.kind, Why.GAVE_UP)
+    return Result(task.kind, task.at, why=why, told=told)
+
+
 def work(task: Task) -> Result:
     """Does one task."""
-    start = clock()
+    start = time.process_time()
     result = Result(task.kind, task.at)
-    deadline = start + task.seconds
+    deadline = clock() + task.seconds
     if task.kind == FLAW:
         _small(task, result)
     elif task.kind == LAYERS:
@@ -224,5 +242,7 @@ def work(task: Task) -> Result:
         _goal(task, result, deadline)
     else:
         _tree(task, result, deadline)
-    result.seconds = clock() - start
+    if result.flaw is not None and not task.meets(result.flaw.counts):
+        result.flaw, result.left_out = None, result.flaw
+    result.seconds = time.process_time() - start
     return result

@@ -13,6 +13,11 @@ class Changed(Exception):
     """The file was changed by somebody else since the page read it."""
 
 
+def is_whole_text(text: str) -> bool:
+    """Whether a text can be written as UTF-8: JSON may have halves of signs."""
+    return not any("\ud800" <= sign <= "\udfff" for sign in text)
+
+
 class Document:
     """A file with its marks: what a text is known by."""
 

@@ -9,8 +9,8 @@ import json
 import os
 import signal
 import sys
-from contextlib import suppress
-from typing import Any, AsyncIterator, Iterator
+from contextlib import aclosing, suppress
+from typing import Any, AsyncGenerator, AsyncIterator, Iterator
 
 from ..engine.places import TOP
 from .limits import BUSY, GRACE, JOBS_LIMIT, LINE_LIMIT, LOOK, MEMORY_LIMIT, MOST_SECONDS, SECONDS, TOTAL_LIMIT
@@ -149,6 +149,7 @@ class Jobs:
 
     def __init__(self) -> None:
         self.running: set[Worker] = set()
+        self.begun = 0  # jobs that run, or for which a process is started
         self.ready: asyncio.Task[Worker] | None = None
         self.looking: asyncio.Task[None] | None = None
         self.is_closed = False
@@ -174,10 +175,24 @@ class Jobs:
             worker = await Worker.started()
         return worker
 
-    async def messages(self, request: dict[str, Any]) -> AsyncIterator[bytes]:
+    @property
+    def is_full(self) -> bool:
+        """Whether no other job can begin now."""
+        return self.begun >= JOBS_LIMIT or self.is_closed
+
+    async def messages(self, request: dict[str, Any]) -> AsyncGenerator[bytes, None]:
         """The messages of a job; TooMany where it can't begin now."""
-        if len(self.running) >= JOBS_LIMIT or self.is_closed:
+        if self.is_full:
             raise TooMany
+        self.begun += 1
+        try:
+            async with aclosing(self._messages(request)) as messages:
+                async for message in messages:
+                    yield message
+        finally:
+            self.begun -= 1
+
+    async def _messages(self, request: dict[str, Any]) -> AsyncGenerator[bytes, None]:
         worker = await self._worker()
         self.running.add(worker)
         if self.looking is None or self.looking.done():

@@ -62,6 +62,7 @@ class _Sender:
     def send(self) -> None:
         """Sends what is new: names with their outputs, and rows by the numbers of these names."""
         recorder, fresh = self.recorder, []
+        recorder.ahead(self.run.meetings)
         for name, output in recorder.outputs.items():
             if name not in self.names:
                 self.names[name] = len(self.names)

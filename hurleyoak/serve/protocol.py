@@ -22,7 +22,7 @@ from ..protocol.predicates import PredicateFault
 from ..protocol.reactions import leaf_ways
 from ..protocol.naming import state_text
 from ..text.scanner import TextFault, without_comment
-from ..text.writer import combine_text, leaf_names, text_of
+from ..text.writer import combine_text, leaf_names, loaded_text
 from .request import Request, Tell, text_in, whole_in
 
 NAME = "protocol"
@@ -216,6 +216,7 @@ def net_value(loaded: Loaded) -> dict[str, Any]:
         "combineText": combine_text(net.combine, labels),
         "leaves": [_leaf(loaded, i, label) for i, label in enumerate(labels)],
         "predicate": loaded.predicate,
+        "assumed": loaded.assumed,
     }
 
 
@@ -250,4 +251,4 @@ def read_task(request: Request, tell: Tell) -> dict[str, Any]:
 def text_task(request: Request, tell: Tell) -> dict[str, Any]:
     """The same as a `.pop` file."""
     loaded = loaded_of(request)
-    return {"text": text_of(loaded.net, bundle_in(loaded), loaded.labels)}
+    return {"text": loaded_text(loaded, bundle_in(loaded))}

@@ -17,7 +17,7 @@ from ..engine.inputs import Asked
 from ..proof.bundles import Bundle
 from ..text.scanner import TextFault
 from ..show.told.answers import told as answer_told
-from ..text.writer import text_of
+from ..text.writer import loaded_text
 from .limits import SECONDS
 from .protocol import NAME, Fault, Mark, MarkKind, faults_of, has_lines, labels_of, loaded_of, mark
 from .request import Request, Tell, flag_in, text_in, whole_in
@@ -34,7 +34,7 @@ def explained(loaded: Loaded, bundle: Bundle) -> dict[str, Any]:
         raise Fault(
             answer_told(Asked(["check"], [bundle.line()], ["the bundle"]), answer.text.splitlines()[:3], answer.status)
         )
-    told = explain(loaded, bundle, answer.first_line)
+    told = explain(loaded, bundle, answer.text)
     return {"answer": answer_value(answer), "explanation": explanation_value(told), "bundle": bundle.line()}
 
 
@@ -82,6 +82,8 @@ def _told_result(result: Result) -> dict[str, Any]:
         if result.tree
         else "a wrong crowd"
         if result.flaw
+        else "a wrong crowd that `assume` leaves out"
+        if result.left_out
         else f"none up to {result.tried.agents} agents"
     )
     return {
@@ -89,7 +91,7 @@ def _told_result(result: Result) -> dict[str, Any]:
         "task": result.kind,
         "seconds": round(result.seconds, 2),
         "told": told,
-        "good": not result.why and not result.flaw,
+        "good": not result.why and not result.flaw and not result.left_out,
     }
 
 
@@ -118,9 +120,9 @@ def _text_with(request: Request, loaded: Loaded, bundle: Bundle) -> str:
     """The text with the proof in it; its comments stay where that can be."""
     text = text_in(request, "text")
     try:
-        return text_of(loaded.net, bundle, loaded.labels) if not has_lines(loaded) else with_proof(text, bundle)
+        return loaded_text(loaded, bundle) if not has_lines(loaded) else with_proof(text, bundle)
     except InputFault:
-        return text_of(loaded.net, bundle, loaded.labels)
+        return loaded_text(loaded, bundle)
 
 
 def _proof_found(request: Request, loaded: Loaded, bundle: Bundle, told: list[str], took: float) -> dict[str, Any]:
@@ -133,7 +135,7 @@ def _proof_found(request: Request, loaded: Loaded, bundle: Bundle, told: list[st
 def find_task(request: Request, tell: Tell) -> dict[str, Any]:
     """A certified bundle, a crowd that is wrong, or why there is neither."""
     from ..search.finding import find
-    from ..show.telling import failure_told
+    from ..show.telling import failure_told, left_out_told
 
     loaded = loaded_of(request)
     seconds = _seconds(request)
@@ -142,6 +144,8 @@ def find_task(request: Request, tell: Tell) -> dict[str, Any]:
     found = find(loaded, seconds, small, processors(), flag_in(request, "anew"), begins, _comes(tell), _goes_on(tell))
     if found.flaw is not None:
         return {"found": "flaw", **flaw_value(loaded, found.flaw)}
+    if found.left_out is not None:
+        return {"found": "nothing", "told": left_out_told(loaded, found.left_out).split("\n")}
     if found.bundle is None:
         return {"found": "nothing", "told": failure_told(loaded, found.failures[0]).split("\n")}
     return _proof_found(request, loaded, found.bundle, found.told(), found.seconds)
@@ -152,6 +156,7 @@ def mend_task(request: Request, tell: Tell) -> dict[str, Any]:
     isn't enough."""
     from ..search.finding import Outcome, find
     from ..search.mending import mended
+    from ..show.telling import left_out_told
 
     loaded = loaded_of(request)
     seconds = _seconds(request)
@@ -177,6 +182,9 @@ def mend_task(request: Request, tell: Tell) -> dict[str, Any]:
         )
     if flaws:
         return {"found": "flaw", **flaw_value(loaded, flaws[0])}
+    left_out = [one.left_out for one in outcomes if one.left_out is not None]
+    if left_out:
+        return {"found": "nothing", "told": left_out_told(loaded, left_out[0]).split("\n")}
     return {
         "found": "nothing",
         "told": ["no proof was found in the place of what is refused; `Find another` looks for all of it"],

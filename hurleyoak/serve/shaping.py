@@ -18,7 +18,7 @@ from ..engine.inputs import Asked
 from ..text.relaxed import in_form
 from ..protocol.nets import FormatFault, Leaf, Net
 from ..show.told.answers import told as answer_told
-from ..text.writer import text_of
+from ..text.writer import loaded_text
 from .protocol import NAME, Fault, labels_of, loaded_of
 from .request import Request, Tell, text_in
 from ..show.values import answer_value
@@ -164,7 +164,7 @@ def _bundle_shown(line: str, head: str) -> dict[str, Any]:
     """A bundle as a text, with what the program says of it and the size of its leaves."""
     loaded = load(line, NAME)
     return {
-        "text": head + text_of(loaded.net, bundle_in(loaded), loaded.labels),
+        "text": head + loaded_text(loaded, bundle_in(loaded)),
         "bundle": line,
         "answer": answer_value(program.check(line)),
         "leaves": [[len(leaf.states), len(leaf.active)] for leaf in loaded.net.leaves],

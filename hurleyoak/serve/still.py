@@ -13,14 +13,14 @@ from ..show.explaining import explain
 from ..show.modules import one_script, web_file
 from ..show.onefile import data, policy
 from ..show.outcome import told as simulation_told
-from ..show.values import explanation_value
+from ..show.values import answer_value, explanation_value
 from ..simulation.carrying import Limits, carry_out
 from ..simulation.crowds import crowd_words
 from ..simulation.curves import Curve, Recorder
 from ..simulation.simulation import ENDLESS, TERMINAL, Simulation
 from ..text.files import load
 from ..text.loaded import Loaded, bundle_in, strict_bundle
-from ..text.writer import text_of
+from ..text.writer import loaded_text
 from ..version import RELEASE
 from .protocol import net_value, proof_state
 from .shaping import drawings
@@ -29,6 +29,7 @@ STYLES = ("colours.css", "base.css", "proof.css", "parts.css")
 OF_SOURCES = "is that of the sources"
 USUAL = {1: [1000], 2: [800, 200]}  # agents of each variable where no crowd is given
 USUAL_MORE = 300  # agents of each of three variables or more
+NEAR = 10  # crowds that are tried, with more agents of the first variable
 MOST_CHANGES = 10**6  # changes of a run, after which it is stopped
 
 _PAGE = """<!doctype html>
@@ -67,10 +68,12 @@ _PAGE = """<!doctype html>
 """
 
 
-def usual_counts(loaded: Loaded) -> tuple[int, ...]:
-    """The crowd whose curve a page shows where none is given."""
+def usual_counts(loaded: Loaded) -> tuple[int, ...] | None:
+    """The crowd whose curve a page shows where none is given; None where the file leaves it and its neighbours out."""
     many = len(loaded.net.names)
-    return tuple(USUAL.get(many, [USUAL_MORE] * many))
+    usual = USUAL.get(many, [USUAL_MORE] * many)
+    near = ((usual[0] + more, *usual[1:]) for more in range(NEAR))
+    return next((counts for counts in near if loaded.meets(counts)), None)
 
 
 def measured(loaded: Loaded, counts: tuple[int, ...], seed: int) -> tuple[Curve, list[str]]:
@@ -101,15 +104,9 @@ def _checked(loaded: Loaded) -> dict[str, Any] | None:
     bundle = strict_bundle(loaded)
     line = bundle.line()
     answer = program.check(line)
-    told = explanation_value(explain(loaded, bundle, answer.first_line))
+    told = explanation_value(explain(loaded, bundle, answer.text))
     mark = hashlib.sha256(f"{line}\n".encode()).hexdigest()
-    return {
-        "line": answer.first_line,
-        "good": answer.status == program.DONE,
-        "bundle": line,
-        "hash": mark,
-        "explanation": told,
-    }
+    return {**answer_value(answer), "bundle": line, "hash": mark, "explanation": told}
 
 
 def page_value(loaded: Loaded, name: str, text: str, curves: list[dict[str, Any]]) -> dict[str, Any]:
@@ -138,7 +135,7 @@ def named_text(loaded: Loaded, text: str | None) -> tuple[Loaded, str]:
     node has its line."""
     if loaded.written is not None and text is not None:
         return loaded, text
-    made = text_of(loaded.net, bundle_in(loaded), loaded.labels)
+    made = loaded_text(loaded, bundle_in(loaded))
     return load(made, loaded.name), made
 
 

@@ -11,7 +11,7 @@ from ..text.loaded import Loaded
 from ..search.explore import explore
 from ..search.flaws import WRONG, Flaw, Tried
 from ..search.playing import crowd_line, play
-from ..show.telling import agents_told, flaw_told
+from ..show.telling import agents_told, flaw_told, untried_told
 from ..search.whole import system_of
 from ..proof.names import Names
 from ..protocol.nets import compact
@@ -73,6 +73,7 @@ def refute_task(request: Request, tell: Tell) -> dict[str, Any]:
         "asked": agents,
         "inputs": tried.inputs,
         "crowds": tried.crowds,
+        "untried": untried_told(loaded, tried),
     }
 
 
@@ -113,5 +114,12 @@ def play_task(request: Request, tell: Tell) -> dict[str, Any]:
             ["eval"], f"vars {' '.join(loaded.net.names)}\n{loaded.predicate}\n{line}\n", SECONDS["play"]
         )
         value = {"true": True, "false": False}.get(asked.first_line)
-    out = {"crowd": crowd, "terminal": printed[-1] == "terminal", "enabled": pair, "line": printed[-1]}
+    left_out = [] if loaded.meets(numbers) else loaded.assumed
+    out = {
+        "leftOut": left_out,
+        "crowd": crowd,
+        "terminal": printed[-1] == "terminal",
+        "enabled": pair,
+        "line": printed[-1],
+    }
     return {**out, "meetings": len(meetings), "value": value}

@@ -11,7 +11,7 @@ from ..simulation.crowds import counts_of
 from ..simulation.journals import meetings_of
 from ..text.files import load
 from ..text.loaded import bundle_in, strict_bundle
-from ..text.writer import text_of
+from ..text.writer import loaded_text
 from .limits import MEETINGS_PLAYED, SECONDS
 from .protocol import NAME, Fault, loaded_of
 from .request import Request, Tell, counts_in, text_in
@@ -66,7 +66,7 @@ def journal_task(request: Request, tell: Tell) -> dict[str, Any]:
             [f"Play shows up to {AGENTS_DRAWN} agents and {MEETINGS_PLAYED:,} meetings; this journal has more"]
         )
     loaded = load(lines[0], NAME)
-    return {**found, "replay": answer.first_line, "text": text_of(loaded.net, bundle_in(loaded), loaded.labels)}
+    return {**found, "replay": answer.first_line, "text": loaded_text(loaded, bundle_in(loaded))}
 
 
 def settle_task(request: Request, tell: Tell) -> dict[str, Any]:

@@ -7,21 +7,21 @@ import signal
 from typing import Any
 
 from tornado import iostream, web
-from tornado.httpserver import HTTPServer
 from tornado.netutil import bind_sockets
 
 from ..building.commands import program_told
 from ..faults import InputFault
-from .document import Changed, Document
+from .document import Changed, Document, is_whole_text
 from .guard import HEADERS, refusal, work_refusal
 from .jobs import Jobs, TooMany, trouble
+from .connections import Connections, Server, one_line_each
 from .library import TYPES, examples, examples_told, page_files
-from .limits import TEXT_LIMIT
+from .limits import BODY_SECONDS, IDLE_SECONDS, TEXT_LIMIT
 
 ADDRESS = "127.0.0.1"
 BODY_LIMIT = 2 * TEXT_LIMIT  # JSON writes some signs longer
 HEADER_LIMIT = 1 << 16
-IDLE_SECONDS = 3600.0
+BUSY = "other jobs are still under way: stop one, and ask again"
 
 
 class Settings:
@@ -30,17 +30,20 @@ class Settings:
     def __init__(self, port: int, key: str, document: Document | None) -> None:
         self.port, self.key, self.document = port, key, document
         self.jobs = Jobs()
+        self.connections = Connections()
         self.files = page_files()
 
 
+@web.stream_request_body
 class Handler(web.RequestHandler):
-    """A request that is refused unless it comes from the page of this server."""
+    """A request that is refused unless it comes from the page of this server; its body is read only then."""
 
     is_work = True
 
     def initialize(self, settings: Settings) -> None:
         """Takes what is shared."""
         self.shared = settings
+        self.pieces: list[bytes] = []
 
     def set_default_headers(self) -> None:
         """The same guards on each answer."""
@@ -50,6 +53,8 @@ class Handler(web.RequestHandler):
 
     def prepare(self) -> None:
         """Refuses who may not ask."""
+        self.stream: iostream.IOStream = self.request.connection.stream  # type: ignore[union-attr]
+        self.shared.connections.busy(self.stream)
         headers = self.request.headers
         why = refusal(headers, self.shared.port)
         status = 403
@@ -60,6 +65,14 @@ class Handler(web.RequestHandler):
             self.set_status(status)
             self.finish({"told": [why]})
 
+    def data_received(self, chunk: bytes) -> None:
+        """Takes a piece of the body of a request that isn't refused."""
+        self.pieces.append(chunk)
+
+    def on_finish(self) -> None:
+        """The connection waits for another request."""
+        self.shared.connections.idle(self.stream)
+
     def write_error(self, status_code: int, **more: Any) -> None:
         """A refusal without what the server knows of itself."""
         self.finish({"told": [f"the server refuses this ({status_code})"]})
@@ -67,7 +80,7 @@ class Handler(web.RequestHandler):
     def value(self) -> dict[str, Any]:
         """The request's JSON object; 400 where it is none."""
         try:
-            found = json.loads(self.request.body)
+            found = json.loads(b"".join(self.pieces))
         except (ValueError, RecursionError):
             raise web.HTTPError(400) from None
         if not isinstance(found, dict):
@@ -133,6 +146,10 @@ class SaveHandler(Handler):
         document = self.shared.document
         if document is None or not isinstance(text, str) or not isinstance(seen, str):
             raise web.HTTPError(400)
+        if not is_whole_text(text):
+            self.set_status(400)
+            self.finish({"told": [f"{document.name} is not saved: the text has half a sign, which no UTF-8 has"]})
+            return
         try:
             self.finish({"mark": document.save(text, seen)})
         except Changed:
@@ -155,11 +172,21 @@ class JobHandler(Handler):
 
     task: asyncio.Task[None] | None = None
 
+    def prepare(self) -> None:
+        """Refuses a job for which there is no place, before its body is read."""
+        super().prepare()
+        if not self._finished and self.shared.jobs.is_full:
+            self._begin_stream()
+            self.finish(b"data: " + trouble(BUSY) + b"\n\n")
+
+    def _begin_stream(self) -> None:
+        self.set_header("Content-Type", "text/event-stream; charset=utf-8")
+        self.set_header("X-Accel-Buffering", "no")
+
     async def post(self) -> None:
         """Starts the job and passes on what it tells."""
         request = self.value()
-        self.set_header("Content-Type", "text/event-stream; charset=utf-8")
-        self.set_header("X-Accel-Buffering", "no")
+        self._begin_stream()
         self.task = asyncio.create_task(self._pass_on(request))
         try:
             await self.task
@@ -174,12 +201,13 @@ class JobHandler(Handler):
                 self.write(b"data: " + message + b"\n\n")
                 await self.flush()
         except TooMany:
-            self.write(b"data: " + trouble("other jobs are still under way: stop one, and ask again") + b"\n\n")
+            self.write(b"data: " + trouble(BUSY) + b"\n\n")
         finally:
-            await messages.aclose()  # type: ignore[attr-defined]
+            await messages.aclose()
 
     def on_connection_close(self) -> None:
         """Nobody listens any more."""
+        super().on_connection_close()
         if self.task is not None:
             self.task.cancel()
 
@@ -199,7 +227,7 @@ def application(settings: Settings) -> web.Application:
     )
 
 
-async def _serve(settings: Settings, server: HTTPServer) -> None:
+async def _serve(settings: Settings, server: Server) -> None:
     stop = asyncio.Event()
     loop = asyncio.get_running_loop()
     for number in (signal.SIGINT, signal.SIGTERM, signal.SIGHUP):
@@ -213,16 +241,19 @@ async def _serve(settings: Settings, server: HTTPServer) -> None:
 def serve(port: int, key: str, document: Document | None, ready: Any) -> None:
     """Answers until it is interrupted; `ready` is told the address. OSError where the port is taken."""
     sockets = bind_sockets(port, ADDRESS)
+    one_line_each()
     own_port: int = sockets[0].getsockname()[1]
     settings = Settings(own_port, key, document)
 
     async def run() -> None:
-        server = HTTPServer(
+        server = Server(
             application(settings),
             max_body_size=BODY_LIMIT,
             max_header_size=HEADER_LIMIT,
             idle_connection_timeout=IDLE_SECONDS,
+            body_timeout=BODY_SECONDS,
         )
+        server.connections = settings.connections
         server.add_sockets(sockets)
         ready(f"http://{ADDRESS}:{own_port}/#{key}")
         await _serve(settings, server)

@@ -5,7 +5,6 @@ from typing import Iterator, Sequence
 
 from .explaining import Explanation, ToldFact, ToldLayer, ToldNode
 from .goals import ToldGoal
-from .onelayer import one_layer_told
 from ..protocol.nets import compact
 from ..proof.bundles import Layer, node_value
 from ..proof.names import Names
@@ -189,7 +188,7 @@ def drawn(explanation: Explanation, everything: bool = False) -> str:
     net = bundle.net
     labels = explanation.labels
     lines = [f"# {explanation.line}"]
-    lines += [f"# {told}" for told in one_layer_told(bundle, explanation.line)]
+    lines += [f"# {told}" for told in explanation.soon]
     lines += [f"# warning: {told}" for told in explanation.warnings]
     lines += [f"# {MARK} {told}" for told in [*explanation.differs, *explanation.predicate]]
     lines.append("")

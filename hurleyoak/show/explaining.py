@@ -5,7 +5,9 @@ The first line is the proved program's; all else is the workbench's own reading 
 from __future__ import annotations
 
 from dataclasses import dataclass, field, replace
+from functools import cached_property
 
+from ..engine.claims import Claim, claimed
 from ..proof.branches import Visit, visits
 from ..proof.checking import LayerFault, layer_fault, verdict
 from ..text.loaded import Loaded, LoadedBundle, predicates_differ
@@ -23,6 +25,7 @@ from .goals import ToldGoal, told_goal
 from .layers import ToldLayer as ToldLayer
 from .layers import told_layer
 from .reasons import closes_told, entries_told, gloss, layer_lacks, node_lacks, sum_told
+from .soon import soon_told
 
 ROOM = 100
 
@@ -94,9 +97,10 @@ class ToldLeaf:
 
 @dataclass(kw_only=True)
 class Explanation:
-    """All that is told of a bundle. `line` is what the program said."""
+    """All that is told of a bundle. `line` is what the program said, and `claim` what that claims."""
 
     line: str
+    claim: Claim
     bundle: Bundle
     leaves: list[ToldLeaf]
     drafts: list[ProofDraft]
@@ -104,6 +108,11 @@ class Explanation:
     predicate: list[str]
     differs: list[str]
     labels: list[str]
+
+    @cached_property
+    def soon(self) -> list[str]:
+        """How soon a certified crowd comes to rest."""
+        return soon_told(self.bundle, self.claim)
 
     def tree(self, at: int, value: bool) -> list[ToldNode]:
         """The nodes of a leaf's tree."""
@@ -187,8 +196,8 @@ def bundle_to_explain(loaded: Loaded) -> Bundle:
     return Bundle(loaded.net, loaded.predicate, tuple(parts))
 
 
-def explain(loaded: Loaded, bundle: Bundle, line: str) -> Explanation:
-    """All that there is to say of a bundle, of which the program said this line."""
+def explain(loaded: Loaded, bundle: Bundle, said: str) -> Explanation:
+    """All that there is to say of a bundle, of which the program said this."""
     drafts = loaded.drafts or []
     leaves = [_leaf(bundle, i, drafts[i] if drafts else None) for i in range(len(bundle.net.leaves))]
     predicate = []
@@ -199,7 +208,7 @@ def explain(loaded: Loaded, bundle: Bundle, line: str) -> Explanation:
             f"the leaves' predicates combine to {canonical_text(made, bundle.net.names)}",
             f"the bundle's predicate is {canonical_text(whole, bundle.net.names)}, another tree",
         ]
-    own = verdict(bundle)
+    own, line = verdict(bundle), said.split("\n", 1)[0]
     differs = (
         [
             f"the workbench reads this bundle otherwise, as `{own}`; the line above, the program's, is the one that"
@@ -210,6 +219,7 @@ def explain(loaded: Loaded, bundle: Bundle, line: str) -> Explanation:
     )
     return Explanation(
         line=line,
+        claim=claimed(said),
         bundle=bundle,
         leaves=leaves,
         drafts=drafts,

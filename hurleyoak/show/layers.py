@@ -43,5 +43,5 @@ def told_layer(names: Names, leaf: Leaf, layer: Layer) -> ToldLayer:
         for t in layer.moves:
             p, q, r, s = leaf.moves[t]
             w = layer.weights
-            moves.append(ToldMove(t, names.move(t), (w[p], w[q]), (w[r], w[s]), t not in leaf.active))
+            moves.append(ToldMove(t, names.move(t), (w[p], w[q]), (w[r], w[s]), t not in leaf.active_set))
     return ToldLayer(weights, moves, layer.spread, shaped)

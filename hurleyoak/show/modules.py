@@ -5,7 +5,7 @@ import re
 from pathlib import Path
 
 WEB = Path(__file__).resolve().parent / "web"
-_IMPORT = re.compile(r'^import \{ ([^}]+) \} from "\./([a-z]+)\.js";\n', re.MULTILINE)
+_IMPORT = re.compile(r'^import \{([^}]+)\} from "\./([a-z]+)\.js";\n', re.MULTILINE)
 _EXPORT = re.compile(r"^export ((?:async )?(?:function|class|const) (\w+))", re.MULTILINE)
 
 
@@ -37,7 +37,7 @@ def one_script(main: str, stand_ins: dict[str, str] | None = None) -> str:
 
 
 def _wrapped(name: str, text: str, other: dict[str, str]) -> str:
-    body = _IMPORT.sub(lambda found: f"const {{ {found[1]} }} = module_{other.get(found[2], found[2])};\n", text)
+    body = _IMPORT.sub(lambda found: f"const {{{found[1]}}} = module_{other.get(found[2], found[2])};\n", text)
     names = [found[1] for found in _EXPORT.findall(body)]
     body = _EXPORT.sub(r"\1", body)
     assert not re.search(r"^(?:import|export)\b", body, re.MULTILINE), name

@@ -7,9 +7,8 @@ from .drawing import drawn
 from .explaining import Explanation
 from .modules import one_script, web_file
 from .onefile import data, policy
-from .onelayer import one_layer_told
 from .pagestyle import SCRIPT, STYLE
-from .values import GOOD, explanation_value
+from .values import explanation_value
 
 
 def _script() -> str:
@@ -18,7 +17,7 @@ def _script() -> str:
 
 def page(explanation: Explanation) -> str:
     """The whole page: nothing in it is fetched from elsewhere. Without scripts it shows the text."""
-    good = explanation.line.startswith(GOOD)
+    good = bool(explanation.claim)
     style, script = web_file("colours.css") + web_file("proof.css") + STYLE, _script()
     parts = [
         '<!doctype html><html lang="en"><head><meta charset="utf-8">',
@@ -32,7 +31,6 @@ def page(explanation: Explanation) -> str:
             f'<body><main><h1><code>{escape(explanation.bundle.pred)}</code></h1><p class="verdict'
             f' {"good" if good else "refused"}">{escape(explanation.line)}</p>'
         ),
-        *(f"<p>{escape(told)}</p>" for told in one_layer_told(explanation.bundle, explanation.line)),
         (
             "<p class=\"small\">The first line is the proved program's. The rest of this page is the workbench's own"
             " reading of the same bundle.</p>"

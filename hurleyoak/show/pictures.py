@@ -8,6 +8,7 @@ from typing import Any, Sequence
 from ..faults import InputFault
 from ..writing import write_whole
 from ..simulation.growth import Fit, fits_of
+from ..simulation.timeline import PER_AGENT
 from .look import COLOURS, FALSE_COLOUR, GREY, TRUE_COLOUR, apart
 from .series import Series, Shown, ending
 from ..simulation.table import Row, points
@@ -49,9 +50,10 @@ def needs_matplotlib() -> Any:
     return pyplot
 
 
-def _axes(title: str, below: str) -> tuple[Any, Any]:
+def framed(title: str, below: str, size: tuple[float, float] = SIZE) -> tuple[Any, Any]:
+    """A figure with its words, and its axes."""
     pyplot = needs_matplotlib()
-    figure, axes = pyplot.subplots(figsize=SIZE)
+    figure, axes = pyplot.subplots(figsize=size)
     figure.text(LEFT, 0.945, title, fontsize=11, fontweight="bold", gid="title")
     figure.text(LEFT, 0.89, below, fontsize=8.5, color=GREY, gid="about")
     for side in ("top", "right"):
@@ -90,12 +92,17 @@ def _logarithmic_time(axes: Any) -> None:
     axes.xaxis.set_minor_formatter(NullFormatter())
 
 
-def _line(axes: Any, times: Sequence[float], series: Series, colour: str, number: int, of: int) -> None:
-    """One line, told apart by colour, dashes and marks; those of a second input are thin, with hollow marks."""
+def _line(axes: Any, shown: Shown, series: Series, colour: str, number: int, of: int) -> None:
+    """One line, told apart by colour, dashes and marks; those of a second input are thin, with hollow marks. Its mean
+    field is dotted."""
+    times = shown.times
+    if series.field:
+        name = f"field{number}" if not of else f"field{number}of{of}"
+        axes.plot(shown.field_times, series.field, color=colour, linewidth=1.3, linestyle=(0, (1, 1.6)), gid=name)
     axes.plot(
         times,
         series.counts,
-        drawstyle="default" if series.low else "steps-post",
+        drawstyle="default" if series.low or shown.is_smooth else "steps-post",
         color=colour,
         linewidth=WIDTHS[of % len(WIDTHS)],
         linestyle=DASHES[number % len(DASHES)],
@@ -127,9 +134,9 @@ def draw_curves(shown: Sequence[Shown], is_log: bool = False) -> Any:
     """One curve or two on the same axes; a state has one colour in both."""
     several = len(shown) > 1
     if several:
-        figure, axes = _axes(f"1, thick: {shown[0].title}", f"2, thin: {shown[1].title}")
+        figure, axes = framed(f"1, thick: {shown[0].title}", f"2, thin: {shown[1].title}")
     else:
-        figure, axes = _axes(shown[0].title, ending(shown[0]))
+        figure, axes = framed(shown[0].title, ending(shown[0]))
     first, last, agents = _spans(shown, is_log)
     known: dict[str, int] = {}
     names, colours, ends = [], [], []
@@ -139,7 +146,7 @@ def draw_curves(shown: Sequence[Shown], is_log: bool = False) -> Any:
         for series in one.series:
             number = known.setdefault(series.name, len(known))
             colour = palette[number % len(palette)]
-            _line(axes, one.times, series, colour, number, of)
+            _line(axes, one, series, colour, number, of)
             names.append((f"output {series.name}" if by_output else series.name) + (f" ({of + 1})" if several else ""))
             colours.append(colour)
             ends.append(series.counts[-1] / (agents * 1.03))
@@ -153,7 +160,8 @@ def draw_curves(shown: Sequence[Shown], is_log: bool = False) -> Any:
             shown[0].last_change, color=GREY, linewidth=0.9, linestyle=dashed, gid="last-change", clip_on=False
         )
     _labels(axes, names, colours, ends)
-    axes.set_xlabel("parallel time: meetings per agent", fontsize=9)
+    unit = shown[0].unit
+    axes.set_xlabel(f"parallel time: {unit}" if unit == PER_AGENT else unit, fontsize=9)
     axes.set_ylabel("agents", fontsize=9)
     figure.subplots_adjust(left=0.105, right=0.83, top=0.84, bottom=0.12)
     return figure
@@ -195,7 +203,7 @@ def _net(axes: Any, rows: Sequence[Row], net: str, what: str, number: int) -> tu
 def draw_table(rows: Sequence[Row], what: str, told: str) -> Any:
     """Medians and quartiles over the number of agents on double logarithmic axes, with the fitted growth."""
     names = {"end": "to the end", "agreed": "to agreement"}
-    figure, axes = _axes(f"Meetings {names[what]}: {', '.join(dict.fromkeys(row.net for row in rows))}", told)
+    figure, axes = framed(f"Meetings {names[what]}: {', '.join(dict.fromkeys(row.net for row in rows))}", told)
     axes.set_xscale("log")
     axes.set_yscale("log")
     nets = list(dict.fromkeys(row.net for row in rows))

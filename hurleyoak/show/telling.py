@@ -77,6 +77,30 @@ def _names(net: Net, flaw: Flaw) -> Names:
     return Names(net.names, flaw.leaf)
 
 
+def left_out_told(loaded: Loaded, flaw: Flaw) -> str:
+    """Why there is no certificate, where the protocol is wrong at an input that the file leaves out."""
+    return (
+        f"at {_input(loaded.net, flaw.counts)} the protocol doesn't compute `{loaded.predicate}`, and the file leaves"
+        " that input out by `assume`.\nWhat helps: a predicate that is right there too; `refute` looks for a wrong crowd"
+        " among the others"
+    )
+
+
+def that_meet(loaded: Loaded) -> str:
+    """Which inputs are meant, where a file assumes something."""
+    return f" that meet {' and '.join(f'`{text}`' for text in loaded.assumed)}" if loaded.assumed else ""
+
+
+def untried_told(loaded: Loaded, tried: Tried) -> str:
+    """That no input was tried, and why; empty where some were."""
+    if tried.inputs:
+        return ""
+    if tried.met or not loaded.assumed:
+        return "no input was tried to its end: the crowds of each are too many, or the time was up"
+    most = f"none of up to {tried.agents} agents plus helpers" if tried.agents else "none"
+    return f"no input was tried: {most} is one of those{that_meet(loaded)}"
+
+
 OFFERED = "Goals can certify it: `pop find` looks for them"
 LOOKED = (
     'Goals can certify such a protocol, and `find` found none (docs/guide/certificates.md, "Goals"). What helps: leave'
@@ -166,7 +190,9 @@ def failure_told(loaded: Loaded, result: Result) -> str:
         tree = read_predicate(text, net.names)
         return who + restless_told(net, tree, text, result.restless, result.tried)
     if result.why == Why.MISSES:
-        return who + _misses(names, net, result, text)
+        assert result.missed is not None
+        left_out = "" if loaded.meets(result.missed.counts) else ", which the file leaves out by `assume`,"
+        return who + _misses(names, net, result, text, left_out)
     if result.why == Why.NO_LAYERS:
         return who + _no_layers(names, result)
     if result.why == Why.NO_GOAL:
@@ -184,7 +210,7 @@ def failure_told(loaded: Loaded, result: Result) -> str:
     return who + _wrong_end(net, names, result, text)
 
 
-def _misses(names: Names, net: Net, result: Result, text: str) -> str:
+def _misses(names: Names, net: Net, result: Result, text: str, left_out: str) -> str:
     """A leaf that isn't right for its own predicate, while the whole net wasn't found wrong."""
     assert result.missed is not None
     flaw = result.missed
@@ -196,7 +222,7 @@ def _misses(names: Names, net: Net, result: Result, text: str) -> str:
         else "leads to a crowd from which none is reached where all output it forever"
     )
     return (
-        f"it misses its own predicate: at {_input(net, flaw.counts)} `{text}` is {want}, and {way or 'no move'} {end}:"
+        f"it misses its own predicate: at {_input(net, flaw.counts)}{left_out} `{text}` is {want}, and {way or 'no move'} {end}:"
         f" {agents_told(names, flaw.crowd)}\nThe whole net was not found wrong there. A proof goes leaf by leaf, so"
         " each leaf needs a predicate that it computes itself.\nWhat helps: change the leaf, or give it another"
         " `computes`, with a whole `predicate` of the combination's shape"
@@ -204,6 +230,8 @@ def _misses(names: Names, net: Net, result: Result, text: str) -> str:
 
 
 def _no_layers(names: Names, result: Result) -> str:
+    if "tame" in result.told:
+        return result.told
     if "time" in result.told:
         return (
             f"layers weren't found, but may exist: {result.told}. What helps: more `--seconds`, or layers of your own"

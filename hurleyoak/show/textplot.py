@@ -58,10 +58,10 @@ def text_curve(shown: Shown) -> str:
             while at + 1 < len(shown.times) and shown.times[at + 1] <= first + length * column / (WIDTH - 1):
                 at += 1
             canvas.put(column / (WIDTH - 1), series.counts[at] / shown.agents, mark)
+        for time, count in zip(shown.field_times, series.field):
+            canvas.put((time - first) / length, count / shown.agents, FIT_MARK)
     labels = [(series.counts[-1] / shown.agents, f"{mark} {series.name}") for series, mark in zip(shown.series, MARKS)]
-    axes = canvas.lines(
-        str(shown.agents), "0", spelled(first), f"{spelled(shown.times[-1])} meetings per agent", labels
-    )
+    axes = canvas.lines(str(shown.agents), "0", spelled(first), f"{spelled(shown.times[-1])} {shown.unit}", labels)
     return "\n".join([shown.title, ending(shown), "", *axes])
 
 

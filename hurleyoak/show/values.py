@@ -10,8 +10,6 @@ from ..engine.program import Answer
 from ..proof.bundles import Linear, Residue
 from ..text.writer import combine_text
 
-GOOD = ("certified ", "stable ")
-
 
 def _fact(fact: ToldFact) -> list[Any]:
     return [fact.number, fact.name, fact.says, fact.means]
@@ -105,9 +103,10 @@ def explanation_value(explanation: Explanation) -> dict[str, Any]:
     ]
     return {
         "line": explanation.line,
-        "good": explanation.line.startswith(GOOD),
+        "good": bool(explanation.claim),
         "predicate": explanation.bundle.pred,
         "combine": combine_text(net.combine, explanation.labels) if len(net.leaves) > 1 else "",
+        "soon": explanation.soon,
         "notes": [*explanation.differs, *explanation.predicate],
         "warnings": explanation.warnings,
         "leaves": leaves,
@@ -116,4 +115,12 @@ def explanation_value(explanation: Explanation) -> dict[str, Any]:
 
 def answer_value(answer: Answer) -> dict[str, Any]:
     """What the program said of a bundle."""
-    return {"line": answer.first_line, "status": answer.status, "good": answer.status == 0}
+    claim = answer.claim
+    return {
+        "line": answer.first_line,
+        "status": answer.status,
+        "good": bool(claim),
+        "claim": str(claim.kind),
+        "bound": claim.bound,
+        "tame": claim.is_tame,
+    }

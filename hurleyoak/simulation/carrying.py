@@ -5,7 +5,7 @@ from dataclasses import dataclass
 from importlib.util import find_spec
 from typing import Callable, Protocol, Sequence
 
-from .simulation import AGREED, BURST, CHANGE_LIMIT, CHANGES, ENDLESS, TERMINAL, Simulation, Stop
+from .simulation import AGREED, BURST, CHANGE_LIMIT, CHANGES, ENDLESS, SETTLED, TERMINAL, Simulation, Stop
 
 LEAST_AGENTS = 2_000  # with fewer agents a batch is too short to pay
 CHANGES_AN_AGENT = 10  # where no limit is given, a large crowd may change so often for each agent
@@ -13,7 +13,8 @@ CHANGES_AN_AGENT = 10  # where no limit is given, a large crowd may change so of
 
 @dataclass(frozen=True)
 class Limits:
-    """Where a simulation stops: at `until` (terminal, agreed, meetings), or after so many meetings or changes."""
+    """Where a simulation stops: at `until` (terminal, agreed, settled, meetings), or after so many meetings or
+    changes."""
 
     until: Stop = TERMINAL
     meetings: int = ENDLESS
@@ -33,7 +34,7 @@ class Bursts(Protocol):
 
 def batches_of(run: Simulation) -> Bursts | None:
     """What draws batches for a crowd; none for a small one, for too many words, or without numpy."""
-    if run.agents < LEAST_AGENTS or find_spec("numpy") is None:
+    if not run.by_counts or run.agents < LEAST_AGENTS or find_spec("numpy") is None:
         return None
     from .batches import Batcher
 
@@ -50,8 +51,10 @@ def carry_out(
 ) -> None:
     """Runs to the first limit, and says in `ended` which. Agreed means on the predicate's value, where it is known."""
     agreed: tuple[int, ...] = ()
-    if limits.until == AGREED:
-        agreed = (0, run.agents) if value is None else (run.agents if value else 0,)
+    if limits.until == SETTLED or limits.until == AGREED and value is None:
+        agreed = (0, run.agents)
+    elif limits.until == AGREED:
+        agreed = (run.agents if value else 0,)
     go_on(run, batches_of(run), limits, agreed, on_change, each_burst)
 
 
@@ -67,9 +70,22 @@ def go_on(
     most = limits.most_changes(run.agents)
     while not run.ended and run.changes < most:
         left = most - run.changes
+        if limits.until == SETTLED and run.output is not None:
+            _look(run, limits.meetings, on_change)
+            continue
         if batches is None or not batches.burst(left, limits.meetings, agreed, on_change):
             run.burst(min(BURST, left), limits.meetings, agreed, on_change)
         if each_burst:
             each_burst()
+        if limits.until == SETTLED and run.ended == AGREED:
+            run.ended = None
     if not run.ended:
         run.ended = AGREED if run.yes in agreed else TERMINAL if run.is_terminal else CHANGES
+
+
+def _look(run: Simulation, meetings: int, on_change: Callable[[], None] | None) -> None:
+    """Ends the run where its outputs stay, and else goes on by one change."""
+    if run.is_settled:
+        run.ended = TERMINAL if run.is_terminal else SETTLED
+    else:
+        run.burst(1, meetings, (), on_change)

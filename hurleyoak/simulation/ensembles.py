@@ -5,20 +5,27 @@ import csv
 import io
 import json
 from dataclasses import dataclass, field
+from statistics import fmean, pstdev
 from typing import Callable, Sequence
 
 from ..faults import AskFault, InputFault
 from ..protocol.nets import Net
+from ..protocol.reactions import Reactions
 from ..text.jsontext import read_json
 from .carrying import Limits, batches_of, go_on
 from .crowds import crowd_words
 from .growth import quantile
+from .kernelled import KernelPaths, KernelRun
+from .manyruns import shared
+from .placing import Placing
 from .seeds import seed_of
 from .simulation import ENDLESS, MEETINGS, TERMINAL, Simulation
+from .timeline import BY_AGENT, PER_AGENT, ROUNDS, Grid, Pace
 
 MARK = "# ensemble "
 TIMES_LIMIT = 5_000  # of a grid
-LOW, HIGH = 0.1, 0.9  # the quantiles of a band
+LOW, MIDDLE, HIGH = 0.1, 0.5, 0.9  # the quantiles of a band
+STATES_TOLD = 12
 
 
 @dataclass
@@ -40,16 +47,18 @@ class Ensemble:
     seed: str
     agents: int
     every: float
+    unit: str = PER_AGENT
     names: list[str] = field(default_factory=list)
     outputs: list[bool] = field(default_factory=list)
     last_changes: list[int] = field(default_factory=list)
     ends: list[bool | None] = field(default_factory=list)
     terminal: int = 0
+    told: str = Simulation.told
     rows: list[list[list[int]]] = field(default_factory=list)
 
     @property
     def times(self) -> list[float]:
-        """The times of the grid, in meetings per agent."""
+        """The times of the grid."""
         return [k * self.every for k in range(len(self.rows[0]))]
 
     def text(self) -> str:
@@ -71,7 +80,7 @@ class Ensemble:
         return out
 
 
-def _path(run: Simulation, every: float, meetings: int, outputs: dict[str, bool]) -> Path:
+def _path(run: Simulation, grid: Grid, meetings: int, outputs: dict[str, bool]) -> Path:
     """A run with its crowds at the grid's times."""
     path, batches = Path(), batches_of(run)
     while True:
@@ -84,8 +93,16 @@ def _path(run: Simulation, every: float, meetings: int, outputs: dict[str, bool]
             path.last_change, path.output, path.is_terminal = run.last_change, run.output, run.is_terminal
             return path
         run.ended = None
-        goal = min(meetings, round(len(path.rows) * every * run.agents))
+        goal = min(meetings, grid.meetings(len(path.rows)))
         go_on(run, batches, Limits(MEETINGS, goal, ENDLESS), ())
+
+
+def _kernel_path(paths: KernelPaths, grid: Grid, meetings: int, seed: int) -> Path:
+    """The same by the kernel."""
+    states = paths.run(seed, meetings, grid.meetings, TIMES_LIMIT)
+    last = states[-1]
+    rows = [dict(zip(paths.names, state.counts)) for state in states]
+    return Path(rows, last.last_change, paths.output(last), last.is_terminal)
 
 
 def ensemble(
@@ -97,19 +114,37 @@ def ensemble(
     meetings: int,
     title: str,
     each: Callable[[int], None] = lambda done: None,
+    pace: Pace = BY_AGENT,
+    jobs: int = 1,
+    placing: Placing | None = None,
+    by_kernel: bool = False,
 ) -> Ensemble:
-    """So many runs; each has a seed of its own, made of the crowd, the seed and its number."""
+    """So many runs; each has a seed of its own, made of the crowd, the seed and its number. They are shared among so
+    many processes."""
     crowd = crowd_words(net, counts)
+    start = Reactions(net).start(counts)
+    agents = sum(start.values())
+
+    paths_of = KernelPaths(net, start) if by_kernel else None
+
+    def one(number: int) -> tuple[Path, dict[str, bool]]:
+        stream, known = seed_of("ensemble", crowd, str(seed), str(number)), dict[str, bool]()
+        if paths_of:
+            return _kernel_path(paths_of, Grid(pace, agents, every, stream), meetings, stream), paths_of.outputs
+        run = placing.make(net, start, stream) if placing else Simulation(net, counts, stream)
+        return _path(run, Grid(pace, agents, every, stream), meetings, known), known
+
     outputs: dict[str, bool] = {}
     paths = []
-    for number in range(runs):
-        run = Simulation(net, counts, seed_of("ensemble", crowd, str(seed), str(number)))
-        paths.append(_path(run, every, meetings, outputs))
-        each(number + 1)
+    for path, known in shared(one, runs, jobs):
+        outputs.update(known)
+        paths.append(path)
+        each(len(paths))
     names = sorted(outputs)
-    out = Ensemble(title, crowd, str(seed), run.agents, every, names, [outputs[name] for name in names])
+    out = Ensemble(title, crowd, str(seed), agents, every, pace.unit, names, [outputs[name] for name in names])
     out.last_changes = [path.last_change for path in paths]
     out.ends = [path.output for path in paths]
+    out.told = KernelRun.told if by_kernel else out.told
     out.terminal = sum(path.is_terminal for path in paths)
     length = max(len(path.rows) for path in paths)
     for path in paths:
@@ -136,10 +171,28 @@ def read_ensemble(text: str, name: str) -> Ensemble:
     return out
 
 
+def _counts_told(made: Ensemble) -> list[str]:
+    """Of the states of most agents at the last time: the mean, the deviation and the quantiles of the runs."""
+    rows = [rows[-1] for rows in made.rows]
+    most = sorted(range(len(made.names)), key=lambda at: -sum(row[at] for row in rows))[:STATES_TOLD]
+    head = ["at the end", "mean", "deviation", *(f"{part:.0%}" for part in (LOW, MIDDLE, HIGH))]
+    cells = [head]
+    for at in sorted(most):
+        values = sorted(float(row[at]) for row in rows)
+        parts = [quantile(values, part) for part in (LOW, MIDDLE, HIGH)]
+        cells.append([made.names[at], *(f"{part:.6g}" for part in (fmean(values), pstdev(values), *parts))])
+    widths = [max(len(line[at]) for line in cells) for at in range(len(head))]
+    return [
+        "  ".join([line[0].ljust(widths[0]), *(part.rjust(width) for part, width in zip(line[1:], widths[1:]))])
+        for line in cells
+    ]
+
+
 def told(made: Ensemble, value: bool | None) -> list[str]:
     """What is said of the runs."""
     runs, agents = len(made.rows), made.agents
-    last = sorted(float(k) / agents for k in made.last_changes)
+    per, unit = (1, ROUNDS) if made.unit == ROUNDS else (agents, "meetings for each agent")
+    last = sorted(float(k) / per for k in made.last_changes)
     said = {
         word: sum(end is kind for end in made.ends)
         for word, kind in (("true", True), ("false", False), ("mixed", None))
@@ -147,12 +200,13 @@ def told(made: Ensemble, value: bool | None) -> list[str]:
     lines = [
         f"runs {runs}, each of {agents} agents; {made.terminal} came to a terminal crowd",
         (
-            f"last change after {quantile(last, 0.5):.4g} meetings for each agent in the median, "
+            f"last change after {quantile(last, 0.5):.4g} {unit} in the median, "
             f"{quantile(last, LOW):.4g} to {quantile(last, HIGH):.4g} in eight of ten"
         ),
         "output " + ", ".join(f"{word} in {k}" for word, k in said.items() if k),
     ]
+    lines += _counts_told(made)
     if value is not None:
         right = said[str(value).lower()]
         lines.append(f"predicate {str(value).lower()}: {right} of {runs} agree")
-    return [*lines, "simulated, and not proved"]
+    return [*lines, f"{made.told}, and not proved"]

@@ -127,11 +127,11 @@ def _like(best: Fit) -> str:
     return told.get(best.shape, f"like {best.shape}")
 
 
-def growth_told(what: str, sizes: Sequence[float], numbers: Sequence[float]) -> str:
-    """A sentence on how the medians grow."""
+def growth_told(what: str, sizes: Sequence[float], numbers: Sequence[float], figure: str = "median") -> str:
+    """A sentence on how the medians grow, or another figure."""
     fits = fits_of(sizes, numbers)
     if not fits:
-        return f"{what}: {LEAST_SIZES} sizes with a median are needed to tell how it grows"
+        return f"{what}: {LEAST_SIZES} sizes with a {figure} are needed to tell how it grows"
     span = f"n = {min(sizes):g} to {max(sizes):g}"
     if max(sizes) < NEAR * min(sizes):
         return (
@@ -143,7 +143,7 @@ def growth_told(what: str, sizes: Sequence[float], numbers: Sequence[float]) -> 
     if best.off > GOOD:
         nearest = f"the nearest, {best.text}, is {best.off:.0%} off"
         return f"{what}: no plain growth fits; {nearest}; as a power, {power.text}; more runs or sizes may tell"
-    told = f"{what}: grows {_like(best)}; the median is about {best.text}, at most {best.off:.0%} off ({span})"
+    told = f"{what}: grows {_like(best)}; the {figure} is about {best.text}, at most {best.off:.0%} off ({span})"
     told += f"; twice the agents, {2 ** power.power:.3g} times as many"
     if best.shape not in RAISED:
         told += f"; as a power, {power.text}"

@@ -114,6 +114,7 @@ def read_journal(text: str, name: str) -> Curve:
     recorder = Recorder()
     recorder.note(0, crowd.crowd)
     for a, b, marked in meetings_of(lines[3:], crowd.agents, name, 4):
+        recorder.ahead(crowd.meetings + 1)
         changed = crowd.meet(a, b)
         if changed != marked:
             raise InputFault(
@@ -122,8 +123,7 @@ def read_journal(text: str, name: str) -> Curve:
             )
         if changed:
             recorder.note(crowd.meetings, crowd.crowd)
-    recorder.next = 0
-    recorder.note(crowd.meetings, crowd.crowd)
+    recorder.end(crowd.meetings, crowd.crowd)
     names = {word for found in recorder.crowds for word in found}
     terminal = lines[-1].startswith(VERDICT) or (lines[-1].startswith(SETTLED) and crowd.is_terminal())
     curve = Curve(

@@ -87,10 +87,10 @@ def meetings_curve(text: str, name: str) -> Curve:
     crowd, recorder = Agents(made.net, made.counts), Recorder()
     recorder.note(0, crowd.crowd)
     for a, b in made.pairs:
+        recorder.ahead(crowd.meetings + 1)
         if crowd.meet(a, b):
             recorder.note(crowd.meetings, crowd.crowd)
-    recorder.next = 0
-    recorder.note(crowd.meetings, crowd.crowd)
+    recorder.end(crowd.meetings, crowd.crowd)
     names = sorted({word for found in recorder.crowds for word in found})
     curve = Curve(
         title="",

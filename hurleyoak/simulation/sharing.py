@@ -13,6 +13,7 @@ from typing import Any, Callable, Iterable, Iterator, Sequence, TextIO
 
 from ..engine import program
 from ..faults import InputFault
+from ..wholes import is_whole
 from .sweepjobs import Job, Result, load_net, read_result, result_of
 
 ROUNDS = 4  # times that a job is tried, each with retries by GNU parallel on other hosts
@@ -108,10 +109,18 @@ def done_here(jobs: Sequence[Job], gathered: Gathered, told: Callable[[], None])
         told()
 
 
-def _login(line: str) -> list[str]:
-    """The words that reach a host of a line for GNU parallel: `host`, `4/host`, or a whole ssh command."""
-    login = line.partition("/")[2] if line.partition("/")[0].isdigit() else line
-    words = shlex.split(login)
+def _login(line: str, path: str) -> list[str]:
+    """The words that reach a host of a line for GNU parallel: `host`, `4/host`, or a whole ssh command. InputFault
+    where it is none: ssh would take a host that begins with `-` for an option."""
+    login = line.partition("/")[2] if is_whole(line.partition("/")[0]) else line
+    try:
+        words = shlex.split(login)
+    except ValueError:
+        words = []
+    if not words or words[0][:1] in ("", "-"):
+        raise InputFault(
+            f"{path}: `{line}` is no host: a line is `host`, `user@host`, `4/host` or a whole ssh command"
+        )
     return words if len(words) > 1 else [*SSH.split(), login]
 
 
@@ -122,12 +131,12 @@ def living(path: str, known: set[str]) -> str:
     except OSError as error:
         raise InputFault(f"{path}: {error.strerror}; `--hosts` names a file with hosts") from None
     lines = [line.strip() for line in text.split("\n") if line.strip() and not line.strip().startswith("#")]
+    logins = {line: _login(line, path) for line in lines if line != HERE}
     asked = {
         line: subprocess.Popen(
-            [*_login(line), "true"], stdin=subprocess.DEVNULL, stdout=subprocess.DEVNULL, stderr=subprocess.DEVNULL
+            [*login, "true"], stdin=subprocess.DEVNULL, stdout=subprocess.DEVNULL, stderr=subprocess.DEVNULL
         )
-        for line in lines
-        if line != HERE
+        for line, login in logins.items()
     }
     dead = {line for line, run in asked.items() if run.wait() != 0}
     for line in sorted(dead - known):

@@ -25,6 +25,7 @@ CHANGE_LIMIT = 10**7  # changes at most, where no other limit is given
 BURST = 1 << 13  # changes between two looks at the clock
 FREQUENT = 4  # one meeting in so many changes something: then meetings are drawn one by one
 KEPT_WORDS = 64  # so many words keep what each meeting does to all weights
+SETTLED_WORDS = 1_000  # with more words it isn't known whether outputs stay
 ENDLESS = 1 << 200
 
 Change = tuple[int, int]  # a number of a word, and what is added there
@@ -47,11 +48,17 @@ class Stop(StrEnum):
 
     TERMINAL = "terminal"
     AGREED = "agreed"
+    SETTLED = "settled"
     MEETINGS = "meetings"
     CHANGES = "changes"
+    CONDITION = "condition"
+    TIME = "time"
+    INTERRUPTED = "interrupted"
 
 
-TERMINAL, AGREED, MEETINGS, CHANGES = Stop.TERMINAL, Stop.AGREED, Stop.MEETINGS, Stop.CHANGES
+TERMINAL, AGREED, SETTLED = Stop.TERMINAL, Stop.AGREED, Stop.SETTLED
+MEETINGS, CHANGES, CONDITION, TIME = Stop.MEETINGS, Stop.CHANGES, Stop.CONDITION, Stop.TIME
+INTERRUPTED = Stop.INTERRUPTED
 
 
 class Simulation:
@@ -62,6 +69,9 @@ class Simulation:
     `ended` is None, or why it stopped.
     """
 
+    by_counts = True  # whether agents in one word are alike
+    told = "simulated"  # and by whom
+
     def __init__(self, net: Net, counts: Sequence[int], seed: int) -> None:
         self.reactions = Reactions(net)
         self.seed = seed
@@ -71,10 +81,24 @@ class Simulation:
         self.pairs = self.agents * (self.agents - 1)
         self.meetings = self.changes = self.last_change = 0
         self.ended: Stop | None = None
+        self.settled: dict[frozenset[Word], bool] = {}
         self.words: list[Word] = []
         self._take(start)
         self.yes = sum(k for word, k in start.items() if self.reactions.output(word))
         self.since = 0 if self.yes in (0, self.agents) else None
+
+    def put(self, net: Net, crowd: dict[Word, int]) -> None:
+        """Goes on from another crowd, of a net with the same states."""
+        before = self.output
+        self.reactions = Reactions(net)
+        self.settled = {}
+        self.agents = sum(crowd.values())
+        self.pairs = self.agents * (self.agents - 1)
+        self._take(crowd)
+        self.yes = sum(k for word, k in crowd.items() if self.reactions.output(word))
+        if self.output is None or self.output != before:
+            self.since = None if self.output is None else self.meetings
+        self.ended = None
 
     def _take(self, crowd: dict[Word, int]) -> None:
         """Begins the tables anew with the words of a crowd."""
@@ -132,6 +156,31 @@ class Simulation:
     def output(self) -> bool | None:
         """What all agents output; None where they don't agree."""
         return True if self.yes == self.agents else None if self.yes else False
+
+    @property
+    def is_settled(self) -> bool:
+        """Whether all agents output the same, and so do all words that these ever become."""
+        if self.output is None:
+            return False
+        words = frozenset(word for word, k in zip(self.words, self.counts) if k)
+        if words not in self.settled:
+            self.settled[words] = self._stays(words)
+        return self.settled[words]
+
+    def _stays(self, words: frozenset[Word]) -> bool:
+        """Whether words that output the same become only such words; false where there are too many to say."""
+        seen, todo, output = set(words), list(words), self.output
+        while todo:
+            if len(seen) > SETTLED_WORDS:
+                return False
+            one = todo.pop()
+            for made in [made for other in list(seen) for made in self.reactions.both_ways(one, other)]:
+                if self.reactions.output(made) != output:
+                    return False
+                if made not in seen:
+                    seen.add(made)
+                    todo.append(made)
+        return True
 
     def _steps(self, i: int, j: int) -> Steps:
         """The steps of an agent in word i that begins a meeting with one in word j."""

@@ -15,36 +15,43 @@ from ..text.families import values_of
 from ..text.files import load_path, read_text
 from ..text.given import with_predicate
 from ..text.loaded import Loaded, strict_bundle
-from ..text.membersof import load_member
+from ..text.membersof import load_member, members_of
 from ..text.jsontext import read_json
 from ..protocol.nets import compact
 from ..protocol.predicatereader import read_predicate
 from ..protocol.predicates import value_at
+from ..wholes import is_whole, whole_of
 from .crowds import counts_of
+from .graphs import graph_of
 from .journals import read_journal
+from .placing import Placing
 from .seeds import seed_of
 from .carrying import Limits, carry_out
+from .kernelled import KernelRun
+from .kernelled import carry_out as carry_out_by_kernel
 from .simulation import AGENT_LIMIT, ENDLESS, TERMINAL, Simulation
 
 RUN_MEETINGS = 1_000_000  # turns of one worker of the program at most
 MARK_SIZE, CHECK_SIZE = 12, 8
+YES = "yes"
 
 
 class Way(StrEnum):
-    """What does a job's run: the simulation here, or the proved program."""
+    """What does a job's run: the simulation here, the kernel, or the proved program."""
 
     SIMULATE = "simulate"
+    KERNEL = "kernel"
     RUN = "run"
 
 
-BY_SIMULATE, BY_RUN = Way.SIMULATE, Way.RUN
+BY_SIMULATE, BY_KERNEL, BY_RUN = Way.SIMULATE, Way.KERNEL, Way.RUN
 
 
 @dataclass(frozen=True, kw_only=True)
 class Job:
     """One run: by which way, of which net, with which crowd, seed and limits; `mark` stands for the net's contents.
 
-    `member` has the values of a family's parameters, where the file is one.
+    `member` has the values of a family's parameters, where the file is one. `graph` and `rounds` say who meets.
     """
 
     by: Way
@@ -56,11 +63,15 @@ class Job:
     predicate: str
     mark: str
     member: str = ""
+    graph: str = ""
+    rounds: bool = False
 
     def text(self) -> str:
         """The job's words, which are its name too."""
         words = [self.by, self.path, f"crowd={self.crowd}", f"seed={self.seed}", f"changes={self.changes}"]
         words += [f"with={self.member}"] if self.member else []
+        words += [f"graph={self.graph}"] if self.graph else []
+        words += [f"rounds={YES}"] if self.rounds else []
         words += [f"meetings={self.meetings}"] if self.meetings else []
         words += [f"predicate={self.predicate}"] if self.predicate else []
         return shlex.join([*words, f"net={self.mark}"])
@@ -107,19 +118,24 @@ def read_job(text: str) -> Job:
     try:
         by, path, *rest = shlex.split(text)
         given = dict(word.split("=", 1) for word in rest)
+        if not all(map(is_whole, (given["seed"], given["changes"], given.get("meetings", "0")))):
+            raise ValueError
         if by not in list(Way):
             raise AskFault(f"a job is done by simulate or by run, not by `{by}`")
         job = Job(
             by=Way(by),
             path=path,
             crowd=given["crowd"],
-            seed=int(given["seed"]),
-            changes=int(given["changes"]),
-            meetings=int(given.get("meetings", 0)),
+            seed=whole_of(given["seed"]),
+            changes=whole_of(given["changes"]),
+            meetings=whole_of(given.get("meetings", "0")),
             predicate=given.get("predicate", ""),
             mark=given["net"],
             member=given.get("with", ""),
+            graph=given.get("graph", ""),
+            rounds=given.get("rounds") == YES,
         )
+        values_of(job.member)
     except (ValueError, KeyError):
         raise AskFault(f"these are no words of a job: {text}") from None
     return job
@@ -150,6 +166,8 @@ def _is_possible(result: Result) -> bool:
 
 def load_net(path: str, predicate: str, member: str = "") -> Loaded:
     """The net of a job, of a family the member, with the predicate that is given in place of its own."""
+    if member and values_of(member) not in members_of(read_text(path), path):
+        raise InputFault(f"{path}: `{member}` names no member of this family")
     loaded = load_member(read_text(path), values_of(member), path) if member else load_path(path)
     if predicate:
         return with_predicate(loaded, predicate)
@@ -167,8 +185,26 @@ def result_of(job: Job, loaded: Loaded | None = None) -> Result:
         value = value_at(read_predicate(loaded.predicate, loaded.net.names), counts)
     if job.by == BY_RUN:
         return _by_run(job, loaded, value)
+    if job.by == BY_KERNEL:
+        run: Simulation = _by_kernel(job, loaded, counts)
+        return _result(job, run, value)
     run = Simulation(loaded.net, counts, job.stream())
+    if job.graph or job.rounds:
+        graph = graph_of(job.graph, run.agents, job.seed) if job.graph else None
+        run = Placing(graph, job.rounds).make(loaded.net, run.crowd(), job.stream())
     carry_out(run, Limits(TERMINAL, job.meetings or ENDLESS, job.changes or None), None)
+    return _result(job, run, value)
+
+
+def _by_kernel(job: Job, loaded: Loaded, counts: tuple[int, ...]) -> KernelRun:
+    """The run of a job by the kernel."""
+    run = KernelRun(loaded.net, counts, job.stream())
+    carry_out_by_kernel(run, Limits(TERMINAL, job.meetings or ENDLESS, job.changes or None), None)
+    return run
+
+
+def _result(job: Job, run: Simulation, value: bool | None) -> Result:
+    """What came of a job by its run."""
     if not run.is_terminal:
         return Result(job.text(), run.agents, run.meetings, None, None, None)
     right = None if value is None else run.output == value

@@ -7,54 +7,33 @@
     states  f t [N{i} for i in 0..m-1]
 
 `family` names a parameter and its values; a file may have several. `for` repeats the lines that stand deeper, and
-brackets repeat a part of a line. `{..}` is a number: a sum over parameters and names of loops, with + - * // % **,
-parentheses, min, max and abs. In braces with any other name nothing is changed, so that sets of states stay sets.
+brackets repeat a part of a line. `{..}` is a number (familysums). In braces with any other name nothing is changed, so
+that sets of states stay sets, and neither is a comment.
 """
 from __future__ import annotations
 
-import ast
-import operator
 import re
 from dataclasses import dataclass
 from itertools import product
-from typing import Callable, Iterator, Mapping
+from typing import Iterator
 
-from .scanner import TextFault
+from ..wholes import whole_of
+from .familysums import CALLS, NoSum, Values, holds, number_of
+from .scanner import TextFault, without_comment
 
 LINE_LIMIT = 200_000  # lines that a member may have
+ROUND_LIMIT = 1_000_000  # rounds of its loops, with those that make nothing
+TEXT_LIMIT = 1 << 24  # characters that it may have
+DEPTH_LIMIT = 16  # loops in one another, and names of one loop
 MEMBER_LIMIT = 10_000
-EXPONENT_LIMIT = 64
-SIZE_LIMIT = 1 << 64
-EXPRESSION_LIMIT = 1_000  # signs
 
-_FAMILY = re.compile(r"family\s+([A-Za-z_]\w*)\s+in\s+(.+)")
+_FAMILY = re.compile(r"family\s+([A-Za-z_]\w*)\s+in\s+(.+)", re.ASCII)
 _FOR = re.compile(r"for\s+(.+)")
-_RANGE = re.compile(r"\s*([A-Za-z_]\w*)\s+in\s+(.+?)\.\.(.+?)\s*")
+_RANGE = re.compile(r"\s*([A-Za-z_]\w*)\s+in\s+(.+?)\.\.(.+?)\s*", re.ASCII)
 _BRACES = re.compile(r"\{([^{}]*)\}")
 _BRACKETS = re.compile(r"\[([^\[\]]*?)\s+for\s+([^\[\]]*)\]")
-_SIGNS: dict[type[ast.AST], Callable[[int, int], int]] = {
-    ast.Add: operator.add,
-    ast.Sub: operator.sub,
-    ast.Mult: operator.mul,
-    ast.FloorDiv: operator.floordiv,
-    ast.Mod: operator.mod,
-}
-_COMPARED: dict[type[ast.AST], Callable[[int, int], bool]] = {
-    ast.Lt: operator.lt,
-    ast.LtE: operator.le,
-    ast.Gt: operator.gt,
-    ast.GtE: operator.ge,
-    ast.Eq: operator.eq,
-    ast.NotEq: operator.ne,
-}
-
-_CALLS: dict[str, Callable[..., int]] = {"min": min, "max": max, "abs": abs}
-
-Values = Mapping[str, int]
-
-
-class _NoSum(Exception):
-    """A text is no sum over these names; the text says why."""
+_NAMES = re.compile(r"[A-Za-z_]\w*")
+_IF = re.compile(r"\sif(?=\s|$)")
 
 
 @dataclass(frozen=True)
@@ -64,103 +43,97 @@ class Member:
     text: str
     sources: list[int]
 
+    def source(self, line: int) -> int:
+        """The line of the family's text that a line comes from."""
+        return self.sources[line - 1] if 0 < line <= len(self.sources) else line
+
     def back(self, fault: TextFault) -> TextFault:
         """The fault at its place in the family's text."""
-        at = self.sources[fault.line - 1] if 0 < fault.line <= len(self.sources) else fault.line
-        return TextFault(at, fault.column, fault.told, fault.quoted)
+        return TextFault(self.source(fault.line), fault.column, fault.told, fault.quoted)
 
 
-def _number(node: ast.expr, values: Values) -> int:
-    if isinstance(node, ast.Constant) and type(node.value) is int:
-        return node.value
-    if isinstance(node, ast.Name):
-        if node.id not in values:
-            raise _NoSum(f"`{node.id}` is neither a parameter nor the name of a loop")
-        return values[node.id]
-    if isinstance(node, ast.UnaryOp) and isinstance(node.op, ast.USub):
-        return -_number(node.operand, values)
-    if isinstance(node, ast.BinOp):
-        left, right = _number(node.left, values), _number(node.right, values)
-        if isinstance(node.op, ast.Pow):
-            if not 0 <= right <= EXPONENT_LIMIT:
-                raise _NoSum(f"an exponent is 0 to {EXPONENT_LIMIT}, found {right}")
-            return _sized(left**right)
-        if type(node.op) not in _SIGNS:
-            raise _NoSum("a sum has the signs + - * // % **, parentheses, min, max and abs")
-        if right == 0 and isinstance(node.op, (ast.FloorDiv, ast.Mod)):
-            raise _NoSum("a division by 0")
-        return _sized(_SIGNS[type(node.op)](left, right))
-    if isinstance(node, ast.Call) and isinstance(node.func, ast.Name) and node.func.id in _CALLS and node.args:
-        if len(node.args) == 1 and node.func.id != "abs" or len(node.args) > 1 and node.func.id == "abs":
-            raise _NoSum(f"`{node.func.id}` takes {'one number' if node.func.id == 'abs' else 'several numbers'}")
-        return _CALLS[node.func.id](*(_number(part, values) for part in node.args))
-    raise _NoSum("a sum has the signs + - * // % **, parentheses, min, max and abs")
+class _Made:
+    """How much of a member was made so far; NoSum where that is over a limit."""
+
+    def __init__(self) -> None:
+        self.lines = self.rounds = self.characters = 0
+
+    def line(self, text: str) -> None:
+        """One more line."""
+        self.lines += 1
+        if self.lines > LINE_LIMIT:
+            raise NoSum(f"the member has over {LINE_LIMIT} lines")
+        self.part(text)
+
+    def part(self, text: str) -> None:
+        """So much more of a text."""
+        self.characters += len(text)
+        if self.characters > TEXT_LIMIT:
+            raise NoSum(f"the member has over {TEXT_LIMIT} characters")
+
+    def round(self) -> None:
+        """One more round of a loop."""
+        self.rounds += 1
+        if self.rounds > ROUND_LIMIT:
+            raise NoSum(f"the loops of the member go round over {ROUND_LIMIT} times")
 
 
-def _sized(number: int) -> int:
-    if abs(number) > SIZE_LIMIT:
-        raise _NoSum("a number is over 2^64")
-    return number
+def _heads(text: str) -> list[str]:
+    """The parts of `i in 0..min(m, k), j in i..m`: a comma in parentheses parts nothing."""
+    out, depth = [""], 0
+    for sign in text:
+        depth += (sign == "(") - (sign == ")")
+        if sign == "," and depth <= 0:
+            out.append("")
+        else:
+            out[-1] += sign
+    return out
 
 
-def _parsed(text: str) -> ast.expr:
-    if len(text) > EXPRESSION_LIMIT:
-        raise _NoSum(f"a sum has over {EXPRESSION_LIMIT} signs")
-    try:
-        return ast.parse(text.strip().replace("^", "**"), mode="eval").body
-    except (SyntaxError, ValueError, RecursionError, MemoryError):
-        raise _NoSum(f"`{text.strip()}` is no sum") from None
-
-
-def _holds(text: str, values: Values) -> bool:
-    """Whether a comparison, or several joined by `and`, is true."""
-    node = _parsed(text)
-    parts = node.values if isinstance(node, ast.BoolOp) and isinstance(node.op, ast.And) else [node]
-    for part in parts:
-        if not isinstance(part, ast.Compare):
-            raise _NoSum("after `if` comes a comparison, as in `i + j < m`")
-        numbers = [_number(side, values) for side in (part.left, *part.comparators)]
-        if not all(
-            _COMPARED[type(sign)](a, b)
-            for sign, a, b in zip(part.ops, numbers, numbers[1:])
-            if type(sign) in _COMPARED
-        ):
-            return False
-    return True
-
-
-def _loops(text: str, values: Values) -> Iterator[Values]:
+def _loops(text: str, values: Values, made: _Made) -> Iterator[Values]:
     """The values of the names in `i in 0..m-1, j in i..m-1 if i < j`."""
-    heads, _, condition = text.partition(" if ")
-    yield from _nested(heads.split(","), condition, dict(values))
+    found = _IF.search(text)
+    heads, condition = (text[: found.start()], text[found.end() :]) if found else (text, None)
+    if condition is not None and not condition.strip():
+        raise NoSum("a condition is missing after `if`, as in `if i < j`", text)
+    parts = _heads(heads)
+    if len(parts) > DEPTH_LIMIT:
+        raise NoSum(f"a loop has at most {DEPTH_LIMIT} names", text)
+    yield from _nested(parts, condition, dict(values), made)
 
 
-def _nested(heads: list[str], condition: str, values: Values) -> Iterator[Values]:
+def _nested(heads: list[str], condition: str | None, values: Values, made: _Made) -> Iterator[Values]:
     if not heads:
-        if not condition or _holds(condition, values):
+        if condition is None or holds(condition, values):
             yield values
         return
     found = _RANGE.fullmatch(heads[0])
     if found is None:
-        raise _NoSum(f"`{heads[0].strip()}` is no range, as in `i in 0..m-1`")
-    low, high = (_number(_parsed(found[k]), values) for k in (2, 3))
+        raise NoSum(f"`{heads[0].strip()}` is no range, as in `i in 0..m-1`", heads[0])
+    low, high = (number_of(found[k], values) for k in (2, 3))
     if high - low > LINE_LIMIT:
-        raise _NoSum(f"a loop goes over {high - low + 1} numbers; at most {LINE_LIMIT} lines are made")
+        raise NoSum(f"a loop goes over {high - low + 1} numbers; at most {LINE_LIMIT} lines are made", heads[0])
     for number in range(low, high + 1):
-        yield from _nested(heads[1:], condition, {**values, found[1]: number})
+        made.round()
+        yield from _nested(heads[1:], condition, {**values, found[1]: number}, made)
 
 
-def _filled(line: str, values: Values) -> str:
+def _filled(line: str, values: Values, made: _Made) -> str:
     """A line with the numbers in the place of the braces."""
 
     def part(found: re.Match[str]) -> str:
-        names = set(re.findall(r"[A-Za-z_]\w*", found[1])) - set(_CALLS)
+        names = set(_NAMES.findall(found[1])) - set(CALLS)
         if not found[1].strip() or not names <= set(values):
             return found[0]
-        return str(_number(_parsed(found[1]), values))
+        return str(number_of(found[1], values))
+
+    def again(text: str, inner: Values) -> str:
+        filled = _filled(text, inner, made)
+        made.part(filled)
+        return filled
 
     def repeated(found: re.Match[str]) -> str:
-        return " ".join(_filled(found[1], inner) for inner in _loops(found[2], values))
+        return " ".join(again(found[1], inner) for inner in _loops(found[2], values, made))
 
     return _BRACES.sub(part, _BRACKETS.sub(repeated, line))
 
@@ -178,47 +151,59 @@ def _body(lines: list[tuple[int, str]], at: int) -> tuple[list[tuple[int, str]],
     return [(number, text[inner - depth :] if text.strip() else text) for number, text in body], end
 
 
-def _expanded(lines: list[tuple[int, str]], values: Values, count: list[int]) -> Iterator[tuple[int, str]]:
+def _expanded(lines: list[tuple[int, str]], values: Values, made: _Made, depth: int = 0) -> Iterator[tuple[int, str]]:
     at = 0
     while at < len(lines):
         number, text = lines[at]
-        plain = text.split("#", 1)[0].strip()
+        said = without_comment(text)
         try:
-            if found := _FOR.fullmatch(plain):
+            if found := _FOR.fullmatch(said.strip()):
+                if depth == DEPTH_LIMIT:
+                    raise NoSum(f"at most {DEPTH_LIMIT} loops stand in one another")
                 body, at = _body(lines, at)
-                for inner in _loops(found[1], values):
-                    yield from _expanded(body, inner, count)
+                for inner in _loops(found[1], values, made):
+                    yield from _expanded(body, inner, made, depth + 1)
                 continue
-            made = _filled(text, values)
-        except _NoSum as why:
-            raise TextFault(number, 1 + len(text) - len(text.lstrip()), str(why), text) from None
-        count[0] += 1
-        if count[0] > LINE_LIMIT:
-            raise TextFault(number, 1, f"the member has over {LINE_LIMIT} lines", text)
-        yield number, made
+            filled = _filled(said, values, made) + text[len(said) :]
+            made.line(filled)
+        except NoSum as why:
+            raise _fault(number, text, why) from None
+        yield number, filled
         at += 1
+
+
+def _fault(number: int, text: str, why: NoSum) -> TextFault:
+    """The fault at its part of the line, or where the line begins to say something."""
+    part = why.part.strip()
+    at = text.find(part) if part else -1
+    return TextFault(number, 1 + (at if at >= 0 else len(text) - len(text.lstrip())), str(why), text)
+
+
+def _family(line: str) -> re.Match[str] | None:
+    """What a line `family` says, where it is one."""
+    return _FAMILY.fullmatch(without_comment(line).strip())
 
 
 def parameters(text: str) -> dict[str, range]:
     """The parameters of a family with their values; none where the text is of a single protocol."""
     out: dict[str, range] = {}
     for number, line in enumerate(text.split("\n"), start=1):
-        found = _FAMILY.fullmatch(line.split("#", 1)[0].strip())
+        found = _family(line)
         if found is None:
             continue
         low, dots, high = found[2].partition("..")
         try:
-            first = _number(_parsed(low), {})
-            out[found[1]] = range(first, (_number(_parsed(high), {}) if dots else first) + 1)
-        except _NoSum as why:
-            raise TextFault(number, 1, f"{why}; a family is written as `family m in 2..20`", line) from None
+            first = number_of(low, {})
+            out[found[1]] = range(first, (number_of(high, {}) if dots else first) + 1)
+        except NoSum as why:
+            raise _fault(number, line, NoSum(f"{why}; a family is written as `family m in 2..20`", why.part)) from None
     return out
 
 
 def of_family(fault: TextFault, text: str) -> TextFault:
     """A fault of a family that is read as one protocol: it says how a member is chosen. Others stay as they are."""
     for number, line in enumerate(text.split("\n"), start=1):
-        found = _FAMILY.fullmatch(line.split("#", 1)[0].strip())
+        found = _family(line)
         if found is not None:
             told = f"this is a family of protocols: `pop text FILE --with {found[1]}=..` writes one of them"
             return TextFault(number, 1, told, line)
@@ -232,7 +217,7 @@ def members(text: str) -> list[dict[str, int]]:
         return []
     count = 1
     for values in found.values():
-        count *= len(values)
+        count *= max(0, values.stop - values.start)
     if not 0 < count <= MEMBER_LIMIT:
         raise TextFault(
             1, 1, f"the family has {count} members; it may have 1 to {MEMBER_LIMIT}", text.split("\n", 1)[0]
@@ -242,12 +227,8 @@ def members(text: str) -> list[dict[str, int]]:
 
 def member(text: str, values: Values) -> Member:
     """The text of one member."""
-    lines = [
-        (number, line)
-        for number, line in enumerate(text.split("\n"), start=1)
-        if not _FAMILY.fullmatch(line.split("#", 1)[0].strip())
-    ]
-    made = list(_expanded(lines, values, [0]))
+    lines = [(number, line) for number, line in enumerate(text.split("\n"), start=1) if not _family(line)]
+    made = list(_expanded(lines, values, _Made()))
     return Member("\n".join(line for _, line in made), [number for number, _ in made])
 
 
@@ -258,4 +239,4 @@ def member_name(values: Values) -> str:
 
 def values_of(name: str) -> dict[str, int]:
     """The values that a name of a member has."""
-    return {word.partition("=")[0]: int(word.partition("=")[2]) for word in name.split()}
+    return {word.partition("=")[0]: whole_of(word.partition("=")[2]) for word in name.split()}

@@ -17,7 +17,7 @@ from .relaxed import read_form
 from .scanner import Place
 from .writer import derived_text
 
-READ_AS = "the predicate was read as"
+READ_AS = "was read as"
 
 
 def with_predicate(loaded: Loaded, text: str, parts: Sequence[str] = ()) -> Loaded:
@@ -55,7 +55,7 @@ def read_given(text: str, names: Sequence[str]) -> tuple[str, Predicate]:
 def _form_of(loaded: Loaded, text: str) -> tuple[str, Predicate]:
     form, tree = read_given(text, loaded.net.names)
     if form != text:
-        loaded.warnings.append(f"{READ_AS}: {form}")
+        loaded.warnings.append(f"the predicate {READ_AS}: {form}")
     return form, tree
 
 
@@ -65,10 +65,12 @@ def _derived_parts(net: Net, text: str, tree: Predicate) -> list[str] | None:
 
 
 def pop_predicates(file: PopText, net: Net, warnings: list[str]) -> tuple[str | None, list[str] | None]:
+    """The predicate, and those of the leaves, where they are there."""
+
     def read(part: tuple[str, Place]) -> tuple[str, Predicate]:
         form, tree = predicate_at(*part, net.names)
         if form != part[0]:
-            warnings.append(f"line {part[1].line}: {READ_AS}: {form}")
+            warnings.append(f"line {part[1].line}: the predicate {READ_AS}: {form}")
         return form, tree
 
     parts = [read(leaf.computes)[0] if leaf.computes else None for leaf in file.leaves]

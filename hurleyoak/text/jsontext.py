@@ -11,7 +11,12 @@ def _no_constant(word: str) -> Any:
     raise ValueError(f"`{word}` is no JSON")
 
 
-DECODER = json.JSONDecoder(parse_int=whole_of, parse_constant=_no_constant)
+def _number_of(text: str) -> int | float:
+    """As the program reads them: -0 is no whole number."""
+    return -0.0 if text == "-0" else whole_of(text)
+
+
+DECODER = json.JSONDecoder(parse_int=_number_of, parse_constant=_no_constant)
 
 
 def read_json(text: str) -> Any:

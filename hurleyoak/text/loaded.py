@@ -2,7 +2,7 @@
 from __future__ import annotations
 
 from dataclasses import dataclass, field
-from typing import Sequence, TypeAlias
+from typing import TYPE_CHECKING, Sequence, TypeAlias
 
 from ..faults import InputFault
 from ..proof.bundles import Bundle
@@ -14,6 +14,9 @@ from .madeleaf import MadeLeaf
 from .proofreader import ProofDraft, finished
 from .scanner import Place
 
+if TYPE_CHECKING:
+    from .networks import Network
+
 SHAPES = (
     "the combination and the predicate differ in shape: give each leaf a line `computes PREDICATE` "
     "(docs/guide/certificates.md says which)"
@@ -24,13 +27,15 @@ SHAPES = (
 class Written:
     """What a `.pop` file says in addition to a net and its predicates. `leaves` have their places, and `labels` are
     their names if there are several. `assumed` are the predicates of its lines `assume`. `drafts` are the leaves'
-    proofs as far as they are written, or None if the leaves have no predicates.
+    proofs as far as they are written, or None if the leaves have no predicates. `network` is the reaction network that
+    the text was made of.
     """
 
     leaves: list[MadeLeaf]
     labels: list[str]
     assumed: list[str]
     drafts: list[ProofDraft] | None = None
+    network: Network | None = None
 
 
 @dataclass
@@ -56,6 +61,16 @@ class LoadedNet:
         return self.written.assumed if self.written else []
 
     @property
+    def assumed_trees(self) -> tuple[Predicate, ...]:
+        """The same as trees."""
+        return tuple(read_predicate(text, self.net.names) for text in self.assumed)
+
+    @property
+    def network(self) -> Network | None:
+        """The reaction network, of an input that is one."""
+        return self.written.network if self.written else None
+
+    @property
     def drafts(self) -> list[ProofDraft] | None:
         """The leaves' proofs as far as they are written."""
         return self.written.drafts if self.written else None
@@ -67,7 +82,7 @@ class LoadedNet:
 
     def meets(self, counts: Sequence[int]) -> bool:
         """Whether an input meets all that the file assumes."""
-        return all(value_at(read_predicate(text, self.net.names), counts) for text in self.assumed)
+        return all(value_at(tree, counts) for tree in self.assumed_trees)
 
     def part_trees(self) -> list[Predicate]:
         """The leaves' predicates as trees; InputFault where none are given."""

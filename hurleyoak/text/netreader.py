@@ -167,11 +167,11 @@ def _variables(text: PopText) -> list[str]:
     return out
 
 
-def make_leaf(text: LeafText, variables: list[str], form: int) -> MadeLeaf:
+def make_leaf(text: LeafText, variables: list[str]) -> MadeLeaf:
     """The leaf of a section, or a TextFault."""
     numbers = state_order(text)
     moves, places, laws = _moves(text, numbers)
-    helpers = [numbers[h.name] for h in text.helpers for _ in range(h.number)] if form == 2 else []
+    helpers = [numbers[h.name] for h in text.helpers for _ in range(h.number)]
     told = () if all(law == PLAIN for law in laws) else tuple(laws)
     leaf = Leaf(
         tuple(numbers), tuple(moves), _inputs(text, variables, numbers), _outputs(text, numbers), tuple(helpers), told
@@ -221,7 +221,10 @@ def make_net(text: PopText) -> tuple[Net, list[MadeLeaf]]:
     variables = _variables(text)
     has_helpers = any(leaf.helpers for leaf in text.leaves)
     form = text.format[0] if text.format else 2 if has_helpers else 1
-    made = [make_leaf(leaf, variables, form) for leaf in text.leaves]
+    if form == 1 and has_helpers:
+        place = next(leaf.helpers[0].place for leaf in text.leaves if leaf.helpers)
+        raise place.fault("a net of format 1 has no helpers: write `format 2`, or leave that line out")
+    made = [make_leaf(leaf, variables) for leaf in text.leaves]
     combine: list[Item] = [0]
     if text.combine:
         combine = _combination(text.combine[0], [leaf.name for leaf in text.leaves])
@@ -231,7 +234,7 @@ def make_net(text: PopText) -> tuple[Net, list[MadeLeaf]]:
             + " && ".join(leaf.name for leaf in text.leaves)
             + "`"
         )
-    net = Net(tuple(variables), tuple(m.leaf for m in made), tuple(combine), form, form == 1 and has_helpers)
+    net = Net(tuple(variables), tuple(m.leaf for m in made), tuple(combine), form)
     _within_limits(net.value(), text, made)
     return net, made
 

@@ -23,7 +23,7 @@ from .popsections import (
     PopText,
     TreeText,
 )
-from .scanner import WORD, Line, Place, TextFault, lines_of
+from .scanner import WORD, Line, Place, Source, TextFault, as_they_are, lines_of
 from ..wholes import is_whole, whole_of
 
 LOOP = re.compile(r"for\s+[A-Za-z_]\w*\s+in\b")
@@ -84,8 +84,8 @@ def _several(line: Line, expected: str) -> Iterator[Named]:
 
 
 class _Reader:
-    def __init__(self, text: str) -> None:
-        self.lines = lines_of(text)
+    def __init__(self, text: str, source: Source) -> None:
+        self.lines = lines_of(text, source)
         self.next = 0
         self.file = PopText()
         self.single = False
@@ -292,6 +292,6 @@ class _Reader:
         return layer
 
 
-def read_sections(text: str) -> PopText:
-    """The sections of a text, or a TextFault."""
-    return _Reader(text).read()
+def read_sections(text: str, source: Source = as_they_are) -> PopText:
+    """The sections of a text, or a TextFault; their places are those of the lines from which they come."""
+    return _Reader(text, source).read()

@@ -9,7 +9,8 @@ from ..limits import PARENTHESIS_LIMIT as OPEN_LIMIT
 from ..limits import WEIGHT_LIMIT as CHARGE_LIMIT
 from ..wholes import whole_of
 from .relaxedsums import Sum, comparison_text, congruence_text
-from .relaxedtokens import GLUED_MODULUS, RELATIONS, NotRead, Token, glued_modulus, tokens_of
+from .relaxedtokens import GLUED_MODULUS, RELATIONS, NotRead, Token, arrow_told, glued_modulus, looks_like_number
+from .relaxedtokens import tokens_of
 
 OR, AND, UNIT = 1, 2, 3
 TRUTHS = ("true", "false", "True", "False")
@@ -44,6 +45,8 @@ class FormReader:
 
     def refuse(self, expected: str) -> NotRead:
         token = self.peek()
+        if told := arrow_told(token.text):
+            return NotRead(token.at, told)
         if GLUED_MODULUS.fullmatch(token.text):
             return NotRead(token.at, glued_modulus(token.text))
         before = self.tokens[max(0, self.next - 1)]
@@ -160,6 +163,8 @@ class FormReader:
         """The text of a congruence, behind which `&&`, `||`, `)` or the end comes."""
         text = congruence_text(left, relation, right, inner, outer, place)
         if not (self.peek().kind == "end" or self.peek().kind == "sign" and self.peek().text in ("&&", "||", ")")):
+            if arrow_told(self.peek().text):
+                raise self.refuse("")
             raise NotRead(
                 self.peek().at,
                 f"after a congruence comes `&&`, `||`, `)` or the end, and here is `{self.peek().text}`",
@@ -243,10 +248,10 @@ class FormReader:
             out = right.times(out.constant) if right.coefficients else out.times(right.constant)
 
     def product(self, name: Token) -> None:
-        """Fails at `1e5`, `10k`, `0x10`: a number and a name are a product without a sign only where the name is
-        known."""
+        """`3x` is a product. Fails at `1e5`, `10k`, `0x10`, where the name isn't known: these may be meant for numbers."""
         before = self.tokens[self.next - 1]
-        if before.kind != "number" or (name.text in self.free if self.names is None else name.text in self.names):
+        is_known = name.text in self.free if self.names is None else name.text in self.names
+        if before.kind != "number" or is_known or self.names is None and not looks_like_number(before.text, name.text):
             return
         if GLUED_MODULUS.fullmatch(name.text):
             raise NotRead(name.at, glued_modulus(name.text))

@@ -49,15 +49,11 @@ def _parts(text: str) -> tuple[list[list[int]], list[int], list[bool]]:
 
 
 def with_proof(text: str, bundle: Bundle) -> str:
-    """The text with the proof of this bundle, whose net it has, and with the ends of lines that it had; InputFault
-    where it can't be put in."""
-    end = "\r\n" if "\r\n" in text else "\n"
-    return _with_proof(text.replace("\r\n", "\n"), bundle).replace("\n", end)
-
-
-def _with_proof(text: str, bundle: Bundle) -> str:
-    """The same of a text whose lines end as they do in Python."""
-    lines = text.split("\n")
+    """The text with the proof of this bundle, whose net it has; InputFault where it can't be put in. Lines that stay
+    end as they did, and new ones as the first one does."""
+    end = "\r" if text.partition("\n")[0].endswith("\r") else ""
+    given = text.split("\n")
+    lines = [line.removesuffix("\r") for line in given]
     proofs, lasts, computes = _parts(text)
     taken = {number for proof in proofs for number in proof}
     after: dict[int, list[str]] = {}
@@ -66,12 +62,12 @@ def _with_proof(text: str, bundle: Bundle) -> str:
         kept = _with_comments(fresh, [lines[number] for number in proof])
         after[last] = ([] if has else [head("computes", part.pred)]) + kept
     out: list[str] = []
-    for number, line in enumerate(lines):
+    for number in range(len(lines)):
         if number not in taken:
-            out.append(line)
+            out.append(given[number])
         if number in after:
-            out += after[number]
-    made = "\n".join(_without_double_blanks(out)).rstrip("\n") + "\n"
+            out += [fresh + end for fresh in after[number]]
+    made = "\n".join(_without_double_blanks(out)).rstrip("\r\n") + f"{end}\n"
     try:
         again = strict_bundle(load_pop(made, "the file"))
     except TextFault as fault:

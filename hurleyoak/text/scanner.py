@@ -3,6 +3,7 @@ from __future__ import annotations
 
 import re
 from dataclasses import dataclass
+from typing import Callable
 
 from ..faults import InputFault
 from ..protocol.naming import PLAIN
@@ -178,11 +179,20 @@ def without_comment(text: str) -> str:
     return text
 
 
-def lines_of(text: str) -> list[Line]:
-    """The lines that say something; one that begins with `+`, `,` or `- ` goes on with the one before."""
+Source = Callable[[int], int]  # from the number of a line to that of the line that it comes from
+
+
+def as_they_are(line: int) -> int:
+    """The source of lines that come from no others."""
+    return line
+
+
+def lines_of(text: str, source: Source = as_they_are) -> list[Line]:
+    """The lines that say something, numbered as those that they come from; one that begins with `+`, `,` or `- ` goes
+    on with the one before."""
     out: list[Line] = []
     for number, raw in enumerate(text.split("\n"), start=1):
-        line = Line(number, raw.rstrip("\r"))
+        line = Line(source(number), raw.rstrip("\r"))
         if line.at >= line.end:
             continue
         if out and _CONTINUES.match(line.whole, line.indent):

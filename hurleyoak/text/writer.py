@@ -4,6 +4,7 @@ from __future__ import annotations
 import re
 from typing import Iterator, Sequence
 
+from ..compiler.groups import leaf_told
 from ..proof.branches import Visit, visits
 from ..proof.names import Names, named, sum_of
 from ..protocol.laws import PLAIN, chance_text
@@ -12,10 +13,12 @@ from ..protocol.predicatereader import read_predicate
 from ..protocol.predicates import Predicate
 from ..proof.bundles import Bundle, Goal, Layer, LeafGoals, Linear, Part, Residue, node_value
 from ..protocol.naming import state_text
+from .loaded import Loaded
 
 WIDTH = 118
 STEP = 2
 HEAD = 10
+TEXT_ENDING = ".pop"
 
 
 def head(word: str, text: str) -> str:
@@ -226,7 +229,23 @@ def proof_lines(net: Net, leaf: Leaf, part: Part) -> list[str]:
     return lines
 
 
-def text_of(net: Net, bundle: Bundle | None = None, labels: Sequence[str] = ()) -> str:
+def loaded_text(loaded: Loaded, bundle: Bundle | None) -> str:
+    """The `.pop` file of an input's net, or of a bundle of it, with the leaves' names and with what is assumed."""
+    return text_of(loaded.net, bundle, loaded.labels, loaded.assumed)
+
+
+def with_worths(net: Net, text: str) -> str:
+    """The text below lines that say what the states of a compiled net are worth."""
+    told = [line for leaf in net.leaves for line in leaf_told(leaf)]
+    return "".join(f"# {line}\n" for line in dict.fromkeys(told)) + text
+
+
+def is_text_file(path: str) -> bool:
+    """Whether a file's name asks for the text."""
+    return path.endswith(TEXT_ENDING)
+
+
+def text_of(net: Net, bundle: Bundle | None = None, labels: Sequence[str] = (), assumed: Sequence[str] = ()) -> str:
     """The `.pop` file of a net, or of a bundle with its predicate and proof; `labels` are names for the leaves."""
     lines: list[str] = []
     labels = [state_text(label) for label in labels] or leaf_names(net)
@@ -235,6 +254,7 @@ def text_of(net: Net, bundle: Bundle | None = None, labels: Sequence[str] = ()) 
         lines.append(head("format", "2"))
     if bundle and bundle.pred != derived_text(net, [part.pred for part in bundle.proof]):
         lines.append(head("predicate", bundle.pred))
+    lines += [head("assume", text) for text in assumed]
     if not alone:
         lines += [head("combine", combine_text(net.combine, labels)), ""]
     for i, leaf in enumerate(net.leaves):

@@ -1,5 +1,8 @@
 """Changed files of the tests, odd words and closed streams for all commands: any answer will do, but a traceback.
 
+Neither will a status that isn't one, nor a gigabyte. Half of the changes are mild: a name, a number or a line is
+another, so that what is behind the first reader is tried too.
+
 `python3 -m tests.workbench.fuzzing SEED COUNT FOLDER` tries so many cases in this process, whose streams go nowhere,
 and writes what went wrong to FOLDER/found, a line of JSON for each.
 """
@@ -8,14 +11,19 @@ from __future__ import annotations
 import json
 import os
 import random
+import re
+import resource
 import signal
 import sys
 import traceback
 from pathlib import Path
-from typing import Any
+from typing import Any, Callable
 
 TOP = Path(__file__).resolve().parents[2]
-SECONDS = 20  # of a processor: a case that takes more is too slow
+SECONDS = 60  # of a processor: a case that takes more is too slow
+MEMORY = 1 << 20  # in KiB: a case for which the process has more is too large
+STATUSES = range(10)
+MILD = 0.5  # this part of the changes
 WAIT = 300  # by the clock: a case that takes more is one that hangs
 PIECES = (
     "\x00",
@@ -71,11 +79,20 @@ PIECES = (
     "..",
     "=",
     "x=1..9*2",
+    "=>",
+    "assume x >= 1",
+    "family k in 1..2",
+    "for i in 1..3 if i is 2",
+    "[x{i} for i in 1..9]",
+    "format 1",
+    "{3/4}",
+    "min(1, 2)",
 )
 OPTIONS: dict[str, tuple[str, ...]] = {
     "find": ("--seconds", "1", "--jobs", "1", "--small", "1"),
     "refute": ("--seconds", "1", "--agents", "3"),
     "simulate": ("--changes", "200"),
+    "exact": ("--top", "3"),
     "sweep": ("--runs", "2", "--changes", "200"),
     "plot": ("--text",),
     "draw": ("--text",),
@@ -91,6 +108,7 @@ COMMANDS = (
     "find",
     "refute",
     "simulate",
+    "exact",
     "sweep",
     "plot",
     "draw",
@@ -201,14 +219,48 @@ def changed(text: str, rng: random.Random) -> str:
     return text
 
 
+_NAME = re.compile(r"[A-Za-z_][A-Za-z0-9_]*")
+_WHOLE = re.compile(r"(?<![A-Za-z0-9_])-?[0-9]{1,9}(?![A-Za-z0-9_])")
+
+
+def _one(pattern: re.Pattern[str], text: str, rng: random.Random, made: Callable[[str], str]) -> str:
+    """A text with one match of a pattern made another."""
+    found = list(pattern.finditer(text))
+    if not found:
+        return text
+    at = rng.choice(found)
+    return text[: at.start()] + made(at.group()) + text[at.end() :]
+
+
+def mild(text: str, rng: random.Random) -> str:
+    """A text of which one or two names, numbers, signs or lines are others."""
+    for _ in range(rng.choice([0, 1, 1, 2])):
+        kind, names, lines = rng.randrange(5), _NAME.findall(text) or ["x"], text.split("\n")
+        i = rng.randrange(len(lines))
+        if kind == 0:
+            text = _one(_NAME, text, rng, lambda _: str(rng.choice(names)))
+        elif kind == 1:
+            text = _one(_WHOLE, text, rng, lambda digits: str(int(digits) + rng.choice([-1, 1, 2, 1000])))
+        elif kind == 2:
+            text = "\n".join([*lines[:i], *lines[i + 1 :]])
+        elif kind == 3:
+            text = "\n".join([*lines[:i], lines[i], *lines[i:]])
+        else:
+            j = rng.randrange(len(lines))
+            lines[i], lines[j] = lines[j], lines[i]
+            text = "\n".join(lines)
+    return text
+
+
 def words_of(rng: random.Random, folder: Path, texts: list[str]) -> list[str]:
     """The words of a case, and the files that they name."""
     command = rng.choice(COMMANDS)
     files = []
     for number in range(2):
         path = folder / f"case{number}.{rng.choice(['pop', 'json'])}"
+        change = mild if rng.random() < MILD else changed
         path.write_bytes(
-            changed(rng.choice(texts), rng).encode("utf-8", "surrogatepass" if rng.random() < 0.2 else "replace")
+            change(rng.choice(texts), rng).encode("utf-8", "surrogatepass" if rng.random() < 0.2 else "replace")
         )
         files.append(str(path))
     words = [command, *(files if command in ("and", "or") else files[:1]), *OPTIONS.get(command, ())]
@@ -217,7 +269,7 @@ def words_of(rng: random.Random, folder: Path, texts: list[str]) -> list[str]:
         words[1] = changed(
             rng.choice(["x >= y", "2x + 3*y < 5 && x % 3 = 1", "not (x = y (mod 4)) or 1 < x < 5"]), rng
         )
-    if command in ("simulate", "sweep", "run", "settle"):
+    if command in ("simulate", "exact", "sweep", "run", "settle"):
         words.append("x=3")
     if rng.random() < 0.1:
         rng.shuffle(words)
@@ -263,8 +315,10 @@ def tried(words: list[str], closed: int | None) -> str:
     _watched()
     try:
         open_streams()
-        main(words)
+        status = main(words)
         sys.stdout.flush()
+        if status not in STATUSES:
+            return f"no status: {status}"
     except (SystemExit, MemoryError, RecursionError, OSError):
         return ""
     except Slow:
@@ -273,7 +327,8 @@ def tried(words: list[str], closed: int | None) -> str:
         return traceback.format_exc()
     finally:
         _unwatched()
-    return ""
+    most = resource.getrusage(resource.RUSAGE_SELF).ru_maxrss
+    return f"large: {most} KiB" if most > MEMORY else ""
 
 
 def run(seed: int, count: int, folder: Path) -> None:

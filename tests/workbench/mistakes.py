@@ -204,7 +204,7 @@ MISTAKES: tuple[Mistake, ...] = (
         "fault: usage 1 unknown",
         (
             "`-` has no place here: put the whole predicate in quotes, as in pop compile 'x - y < 3' [--succinct |"
-            " --plain | --flocks] [--helpers none] [-o FILE]"
+            " --plain | --flocks] [--helpers none] [--text] [-o FILE]"
         ),
     ),
     Mistake(
@@ -214,7 +214,7 @@ MISTAKES: tuple[Mistake, ...] = (
         "fault: usage 1 unknown",
         (
             "`-o` is followed by the file to write: pop compile 'x - y < 3' [--succinct | --plain | --flocks]"
-            " [--helpers none] [-o FILE]"
+            " [--helpers none] [--text] [-o FILE]"
         ),
     ),
     Mistake(
@@ -492,7 +492,7 @@ MISTAKES: tuple[Mistake, ...] = (
         "fault: size 99999999999",
         (
             "the crowd has 99,999,999,999 agents and `run` takes 2 to 65,536; what `check` certifies holds for "
-            "every size"
+            "greater ones too"
         ),
     ),
     Mistake(
@@ -514,7 +514,9 @@ MISTAKES: tuple[Mistake, ...] = (
         None,
         2,
         "fault: size 80000",
-        ("the crowd has 80,000 agents and `settle` takes 2 to 65,536; what `check` certifies holds for every size"),
+        (
+            "the crowd has 80,000 agents and `settle` takes 2 to 65,536; what `check` certifies holds for greater ones too"
+        ),
     ),
     Mistake(
         ("run", "majority.json", "x=30", "y=10", "--turns", "3"),

@@ -26,7 +26,7 @@ STAND_IN = """#!/bin/sh
 read -r line
 case $1 in
     signal) kill -KILL $$ ;;
-    check) [ -e "$0.dies" ] && kill -SEGV $$; [ -e "$0.rejects" ] && { echo "rejected predicate"; exit 3; }; echo "certified 2" ;;
+    check | show) [ -e "$0.dies" ] && kill -SEGV $$; [ -e "$0.rejects" ] && { echo "rejected predicate"; exit 3; }; echo "certified 2" ;;
     *) echo "words: $*" ;;
 esac
 """
@@ -103,6 +103,9 @@ READ = [
     ("x = y mod 3 && x >= y", "x - y = 0 mod 3 && x - y >= 0"),
     ("(x = y mod 3) or x > y", "(x - y = 0 mod 3) || x - y > 0"),
     ("2x >= x + y", "x - y >= 0"),
+    ("3x + 2y >= 100", "3*x + 2*y >= 100"),
+    ("2(x + y) >= 3z", "2*x + 2*y - 3*z >= 0"),
+    ("5a + 12bb = 1 mod 7", "5*a + 12*bb = 1 mod 7"),
     ("x - x + y < 1 + 1", "0*x + y < 2"),
 ]
 REFUSED = [
@@ -119,6 +122,8 @@ REFUSED = [
     ("x < 1e5", "`1e5` is no number"),
     ("x >= 1_000", "`1_000` is no number"),
     ("x < 10k", "`10k` is no number"),
+    ("3x < 2M", "`2M` is no number"),
+    ("3x < 0b1", "`0b1` is no number"),
     ("x < 0x10", "`0x10` is no number"),
     ("1e5 <= x && x < 1e5", "`1e5` is no number"),
     ("x = 1 mod5", "put a blank between"),

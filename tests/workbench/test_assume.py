@@ -48,3 +48,14 @@ def test_inputs_that_are_left_out_are_no_counterexample() -> None:
 def test_that_no_input_was_tried_is_told() -> None:
     run = pop("refute", "--agents", "4", text="assume x >= 5 && x < 3\n" + NET)
     assert run.returncode == 4 and run.stdout.startswith("no input was tried: none of up to 4 agents plus helpers")
+
+
+def test_a_page_shows_no_curve_of_an_input_that_is_left_out() -> None:
+    """The usual crowd, or the nearest one that counts."""
+    from hurleyoak.serve.still import usual_counts
+
+    assert usual_counts(load(NET, "x")) == (800, 200)
+    assert usual_counts(load("assume x != 4*y\n" + NET, "x")) == (801, 200)
+    assert usual_counts(load("assume x < 3\n" + NET, "x")) is None
+    run = pop("page", "-", "x=3", "y=3", text="assume x != y\n" + NET)
+    assert run.returncode == program.REFUSED and "doesn't meet what the file assumes" in run.stderr

@@ -1,23 +1,29 @@
 """Succinct leaves: certified by the program, and right in all small crowds, at the edge of their constants."""
 from __future__ import annotations
 
+import json
 import os
 import random
+from pathlib import Path
 from typing import Iterator
 
 import pytest
 
 from hurleyoak.compiler.drafts import NotBuilt
 from hurleyoak.compiler.groups import groups_of
+from hurleyoak.compiler.ownnames import with_names
 from hurleyoak.compiler.whole import Helpers, Kind, atoms_of, compiled
 from hurleyoak.compiler.worths import worths_of
 from hurleyoak.engine import program
-from hurleyoak.engine.compiling import Way, make_bundle
-from hurleyoak.proof.bundles import start_crowd
+from hurleyoak.engine.compiling import BY_CHECK, BY_THEOREM, Way, make_bundle
+from hurleyoak.proof.bundles import bundle_of, start_crowd
 from hurleyoak.proof.checking import verdict
 from hurleyoak.protocol.nets import Leaf, Net
 from hurleyoak.show.netdrawing import DRAWN_STATES, dot_text, table_text
+from hurleyoak.protocol.naming import PLAIN
 from hurleyoak.text.files import load_path
+from hurleyoak.text.loaded import strict_bundle
+from hurleyoak.text.writer import text_of, with_worths
 from hurleyoak.protocol.predicatereader import read_predicate
 from hurleyoak.protocol.predicates import And, Less, Predicate, Rest, atom_of, value_at
 
@@ -25,6 +31,7 @@ from .conftest import TOP, needs_program
 
 NAMES = ("w", "x", "y", "z")
 ATOMS = int(os.environ.get("WORKBENCH_ATOMS", "60"))
+PREDICATES = int(os.environ.get("WORKBENCH_PREDICATES", "40"))
 COMBINATIONS = max(3, ATOMS // 20)
 CROWD_LIMIT = 20_000
 SIGNS = ("<", "<=", ">", ">=", "=", "!=")
@@ -119,6 +126,35 @@ def test_a_combination_is_certified(seed: int) -> None:
     assert program.check(out.bundle.line()).first_line.startswith("certified ")
 
 
+def random_text(rng: random.Random, names: str) -> str:
+    """A comparison or a congruence in the grammar, with coefficients up to 2^31 and bounds up to 2^39."""
+    great = 1 << rng.choice((1, 2, 3, 5, 8, 12, 20, 31))
+    terms = [(rng.randint(1 - great, great - 1), name) for name in names]
+    total = " + ".join(f"{a}*{name}" for a, name in terms).replace("+ -", "- ")
+    if rng.random() < 0.2:
+        modulus = rng.choice((2, 3, 5, 7, 10, 16, 33, 60, 199))
+        return f"{total} = {rng.randrange(modulus)} mod {modulus}"
+    most = 1 << rng.choice((1, 3, 6, 10, 20, 31, 39))
+    return f"{total} {rng.choice(SIGNS)} {rng.randint(-most, most)}"
+
+
+@needs_program
+@pytest.mark.parametrize("seed", range(PREDICATES))
+def test_a_random_predicate_is_certified_and_settles_right(seed: int) -> None:
+    """Of one to three atoms and one to four variables: certified, tame, and `settle` ends as `eval` says."""
+    rng = random.Random(f"predicate {seed}")
+    names = "xyzw"[: rng.randint(1, 4)]
+    text = random_text(rng, names)
+    for _ in range(rng.choice((0, 0, 0, 1, 2))):
+        text = f"({text}) {rng.choice(('&&', '||'))} {rng.choice(('', '!'))}({random_text(rng, names)})"
+    line = compiled(read_predicate(text, list(names)), list(names)).bundle.line()
+    claim = program.check(line).claim
+    assert claim.is_certified and claim.is_tame, text
+    crowd = f"crowd {' '.join(f'{name}={rng.randint(2, 20)}' for name in names)}\n"
+    value = program.ask(["eval"], f"vars {' '.join(names)}\n{text}\n{crowd}").first_line
+    assert program.ask(["settle"], f"{line}\n{crowd}").text.splitlines()[-1] == f"verdict {value}", text
+
+
 @pytest.mark.parametrize("a", range(-2, 4))
 @pytest.mark.parametrize("bound", (-3, 0, 1, 4))
 def test_small_crowds_end_right(a: int, bound: int) -> None:
@@ -163,12 +199,12 @@ def test_settle_agrees_at_the_edge(text: str, inside: tuple[int, int], outside: 
 
 
 def test_sizes_are_those_of_the_construction() -> None:
-    """3k + 5 states for `x - y < 2^k`, 9k + 6 moves and k + 2 helpers; flocks without helpers where all can do
+    """3k + 7 states for `x - y < 2^k`, 13k + 11 moves and k + 2 helpers; flocks without helpers where all can do
     without."""
     for k in (5, 20, 40):
         out = compiled(Less((1, -1), 1 << k), ["x", "y"])
         leaf = out.bundle.net.leaves[0]
-        assert (len(leaf.states), len(leaf.moves), out.helpers) == (3 * k + 5, 9 * k + 6, k + 2)
+        assert (len(leaf.states), len(leaf.moves), out.helpers) == (3 * k + 7, 13 * k + 11, k + 2)
         worth = worths_of(leaf)
         assert worth is not None and worth["P"] == 1 << k
     out = compiled(read_predicate("x >= 1000 || y >= 77", ["x", "y"]), ["x", "y"])
@@ -195,7 +231,56 @@ def test_the_smaller_net_is_taken() -> None:
     assert "certified" in make_bundle(["x", "y"], "x - y < 1000").told[-1]
     assert make_bundle(["x"], "x < 1 &&").answer.status == program.REFUSED
     assert make_bundle(["x", "y"], "x - y < 1", Way.PLAIN).told == []
-    assert "the program's own net" in make_bundle(["x"], "x = 1 mod 3").told[0]
+    assert make_bundle(["x"], "x = 1 mod 3").told[-1] == BY_THEOREM.format("compile")
+    assert make_bundle(["x"], "x >= 1000").told[-1] == BY_THEOREM.format("compile_succinct")
+
+
+@needs_program
+@pytest.mark.parametrize("text", ["x = 1 mod 199", "5*x >= 1000", "x >= 1", "x - y < 20", "7*x + 11*y = 3 mod 60"])
+def test_succinct_is_never_larger(text: str) -> None:
+    """Than the smallest, which has other leaves to choose from."""
+
+    def states(way: Way) -> int:
+        net = bundle_of(json.loads(make_bundle(["x", "y"], text, way).answer.first_line)).net
+        return sum(len(leaf.states) for leaf in net.leaves)
+
+    assert states(Way.SUCCINCT) <= states(Way.SMALLEST)
+
+
+@needs_program
+@pytest.mark.parametrize("text", ["x - y < 10", "7*x - 5*y - 5*z < 3", "x - y < 2 && 6*x - 9*y < 4", "x = 1 mod 60"])
+@pytest.mark.parametrize("way", [Way.SUCCINCT, Way.SMALLEST, Way.QUICK])
+def test_a_text_has_names_that_need_no_table(text: str, way: Way, tmp_path: Path) -> None:
+    """The program's leaf of powers has numbers for names: a `.pop` file says what they are worth, and is certified."""
+    made = make_bundle(["x", "y", "z"], text, way)
+    bundle = with_names(bundle_of(json.loads(made.answer.first_line)))
+    written = tmp_path / "made.pop"
+    written.write_text(with_worths(bundle.net, text_of(bundle.net, bundle)))
+    read = strict_bundle(load_path(str(written)))
+    assert read == bundle and program.check(read.line()).claim.is_certified
+    for leaf in read.net.leaves:
+        assert groups_of(leaf)
+        assert sum(not PLAIN.fullmatch(name) for name in leaf.states) <= len(leaf.inputs)
+    assert written.read_text().startswith("# ")
+
+
+@needs_program
+def test_names_of_the_program_say_its_worths() -> None:
+    """Two variables of one coefficient have their own tokens, and one with nothing to give off next has a mark."""
+    line = program.ask(["compile", "--succinct"], "vars x y z\n5*x + 5*y - 3*z < 9\n").first_line
+    leaf = with_names(bundle_of(json.loads(line))).net.leaves[0]
+    worth = worths_of(leaf)
+    assert worth is not None and {"x.5", "x.1", "x.1'", "y.5", "z.-3"} <= set(leaf.states)
+    assert (worth["x.5"], worth["x.1'"], worth["z.-3"], worth["P"]) == (5, 1, -3, 16)
+
+
+@needs_program
+def test_quick_nets_have_callers() -> None:
+    """Where the program's net is smaller too."""
+    for text, callers in (("x = 1 mod 3", {"F", "T"}), ("x - y < 1", {"0F", "0T"})):
+        made = make_bundle(["x", "y"], text, Way.QUICK)
+        leaf = bundle_of(json.loads(made.answer.first_line)).net.leaves[0]
+        assert callers <= set(leaf.states) and made.claim.is_tame and BY_CHECK in made.told
 
 
 @pytest.mark.parametrize(

@@ -9,7 +9,7 @@ import signal
 import subprocess
 import time
 from pathlib import Path
-from typing import Iterator
+from typing import Any, Iterator
 
 import pytest
 
@@ -22,6 +22,7 @@ from hurleyoak.visible import visible
 from hurleyoak.writing import WriteFault, write_whole
 
 from .conftest import EXAMPLES, TOP
+from .serving import wait_for
 
 POP = str(TOP / "bin" / "pop")
 MAJORITY = str(EXAMPLES / "majority" / "majority.pop")
@@ -100,6 +101,23 @@ def test_words_for_the_shell_are_quoted(monkeypatch: pytest.MonkeyPatch, tmp_pat
     )
     assert run.returncode == program.DONE, run.stderr
     assert not (tmp_path / "X").exists() and not (tmp_path / "Y").exists()
+
+
+@pytest.mark.parametrize("shell", ["sh", "bash", "zsh", "fish"])
+def test_listed_jobs_mean_the_same_in_each_shell(shell: str, tmp_path: Path) -> None:
+    """A line of `sweep --list` is for the shell of whoever pastes it."""
+    if shutil.which(shell) is None:
+        pytest.skip(f"{shell} isn't installed: apt-get install {shell}")
+    net = tmp_path / "it's $HOME; a `net` !1.pop"
+    net.write_text(NET)
+    listed = subprocess.run(
+        [POP, "sweep", str(net), "x=3", "--runs", "2", "--list"], capture_output=True, text=True, check=True
+    )
+    made = [
+        subprocess.run([name, "-c", listed.stdout], capture_output=True, text=True, check=True).stdout
+        for name in ("sh", shell)
+    ]
+    assert made[0] == made[1] and made[0].count("\n") == 2
 
 
 def test_odd_names_of_nets(tmp_path: Path) -> None:
@@ -181,6 +199,23 @@ def test_commands_refuse_read_only_files(words: list[str], tmp_path: Path) -> No
     assert run.returncode == program.WRITE_FAULT and "read-only" in run.stderr and file.read_text() == "old"
 
 
+@pytest.mark.parametrize("name", ["/dev/stdout", "/dev/fd/1"])
+def test_standard_output_by_its_name(tmp_path: Path, name: str) -> None:
+    """A pipe there gets the text, and a file that a shell appends to keeps what it has; so does a pipe by its name."""
+    os.mkfifo(tmp_path / "pipe")
+    words = "import sys; from hurleyoak.writing import write_whole; print('first'); write_whole(sys.argv[1], b'text')"
+    run = ["/usr/bin/python3", "-c", words]
+    assert subprocess.run([*run, name], stdout=subprocess.PIPE, cwd=TOP, check=True).stdout == b"first\ntext"
+    kept = tmp_path / "kept"
+    kept.write_text("before\n")
+    with open(kept, "a", encoding="utf-8") as file:
+        subprocess.run([*run, name], stdout=file, cwd=TOP, check=True)
+    assert kept.read_text() == "before\nfirst\ntext"
+    with subprocess.Popen(["cat", str(tmp_path / "pipe")], stdout=subprocess.PIPE) as reader:
+        subprocess.run([*run, str(tmp_path / "pipe")], stdout=subprocess.PIPE, cwd=TOP, check=True)
+        assert reader.communicate()[0] == b"text"
+
+
 @pytest.mark.parametrize("number, status", [(signal.SIGINT, 130), (signal.SIGTERM, 143)])
 def test_who_is_ended_leaves_nothing(number: int, status: int, tmp_path: Path) -> None:
     trace = tmp_path / "trace"
@@ -234,25 +269,85 @@ def test_a_stale_program_never_answers(checkout: Path) -> None:
         )
 
 
-def test_a_killed_builder_s_toolchain_has_the_lock(checkout: Path) -> None:
+@pytest.fixture()
+def building(checkout: Path) -> Path:
+    """A checkout whose toolchain proves for ten minutes, by a process of its own in another session."""
     tools = checkout / "tools"
     tools.mkdir()
-    (tools / "rt").write_text('#!/bin/sh\ntouch "$STARTED"\nexec sleep 6\n')
+    (tools / "rt").write_text(
+        '#!/bin/sh\nsetsid sleep 600 &\necho $! >"$PROVER.new"\nmv "$PROVER.new" "$PROVER"\nwait\n'
+    )
     (tools / "rt").chmod(0o755)
     (checkout / "crates.txt").write_text("pop_main:\n")
     (checkout / "crates/pop_main/out/pop_main").unlink()
+    return checkout
+
+
+def begun(building: Path, words: list[str], **more: Any) -> "subprocess.Popen[bytes]":
+    """A process that builds, whose toolchain is at work."""
     environment = {name: value for name, value in os.environ.items() if name != "POP_MAIN"}
-    environment.update(PATH=f"{tools}:{environment['PATH']}", STARTED=str(checkout / "started"))
-    run = subprocess.Popen([str(checkout / "bin" / "pop"), "build"], stderr=subprocess.DEVNULL, env=environment)
-    for _ in range(200):
-        if (checkout / "started").exists():
-            break
-        time.sleep(0.05)
+    environment.update(PATH=f"{building / 'tools'}:{environment['PATH']}", PROVER=str(building / "prover"))
+    run = subprocess.Popen(words, stdin=subprocess.DEVNULL, stderr=subprocess.DEVNULL, env=environment, **more)
+    assert wait_for((building / "prover").exists)
+    return run
+
+
+def ends(building: Path) -> bool:
+    """Whether the toolchain's prover ends soon, and then nobody has the lock."""
+
+    def is_free() -> bool:
+        with open(building / "out/pop/lock") as lock:
+            try:
+                fcntl.flock(lock, fcntl.LOCK_EX | fcntl.LOCK_NB)
+            except BlockingIOError:
+                return False
+        return True
+
+    prover = Path("/proc", (building / "prover").read_text().strip(), "stat")
+
+    def has_ended() -> bool:
+        try:
+            return prover.read_text().rpartition(")")[2].split()[0] == "Z"
+        except OSError:
+            return True
+
+    return wait_for(has_ended) and wait_for(is_free)
+
+
+@pytest.mark.parametrize("number", [signal.SIGKILL, signal.SIGTERM, signal.SIGINT])
+def test_a_killed_builder_s_toolchain_ends_with_it(building: Path, number: int) -> None:
+    run = begun(building, [str(building / "bin/pop"), "build"], preexec_fn=lambda: signal.signal(2, signal.SIG_DFL))
+    run.send_signal(number)
+    run.wait()
+    assert ends(building)
+
+
+def test_a_build_that_a_command_began_ends_with_its_caller(building: Path) -> None:
+    """The command's own shell is ended, or that above it, and nothing is sent to the build."""
+    command = f"'{building / 'bin/pop'}' check; true"
+    run = begun(building, ["sh", "-c", command], start_new_session=True)
     run.kill()
     run.wait()
-    with open(checkout / "out/pop/lock") as lock:
-        with pytest.raises(BlockingIOError):
-            fcntl.flock(lock, fcntl.LOCK_EX | fcntl.LOCK_NB)
+    assert ends(building)
+
+
+def test_a_build_below_nohup_goes_on(building: Path) -> None:
+    """As one does that was asked for."""
+    for word in ("nohup '{}' check; true", "'{}' build; true"):
+        (building / "prover").unlink(missing_ok=True)
+        run = begun(
+            building,
+            ["sh", "-c", word.format(building / "bin/pop")],
+            start_new_session=True,
+            stdout=subprocess.DEVNULL,
+        )
+        run.kill()
+        run.wait()
+        time.sleep(3.0)
+        prover = int((building / "prover").read_text())
+        os.kill(prover, 0)
+        os.kill(prover, signal.SIGKILL)
+        assert ends(building)
 
 
 def test_another_user_s_checkout(checkout: Path) -> None:

@@ -23,9 +23,9 @@ from .conftest import CHANGES, COMPILED, EXAMPLES, bundle_at, compiled, example_
 
 
 def expected_line(path: Path) -> str:
-    """What `check` printed of an example, as it is stored."""
+    """The first line that `check` printed of an example, as it is stored."""
     name = "check.expected" if path.name == "bundle.json" else path.with_suffix(".expected").name
-    return (path.parent / name).read_text().strip()
+    return (path.parent / name).read_text().split("\n")[0]
 
 
 @pytest.mark.parametrize("path", example_paths(), ids=lambda p: f"{p.parent.name}/{p.name}")

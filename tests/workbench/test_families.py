@@ -13,6 +13,7 @@ from hurleyoak.text.membersof import load_member
 from hurleyoak.text.scanner import TextFault
 
 from .conftest import EXAMPLES, needs_program
+from .test_commands import pop
 
 FAMILIES = sorted((EXAMPLES / "families").glob("*.pop"))
 FLOCK = (EXAMPLES / "families" / "flock.pop").read_text()
@@ -58,12 +59,12 @@ def test_a_sweep_goes_over_all_members(tmp_path: Path) -> None:
 @pytest.mark.parametrize(
     "words", [("check",), ("draw", "--text"), ("play", "x=3"), ("explain",), ("bundle",)], ids=str
 )
-def test_commands_of_one_protocol_say_how_a_member_is_written(words: tuple[str, ...]) -> None:
+def test_commands_of_one_protocol_say_how_a_member_is_chosen(words: tuple[str, ...]) -> None:
     """A family isn't read as a move that lacks its `+`."""
     from .test_commands import pop
 
     run = pop(words[0], str(EXAMPLES / "families" / "flock.pop"), *words[1:])
-    assert run.returncode == 2 and "this is a family of protocols: `pop text FILE --with" in run.stderr
+    assert run.returncode == 2 and "is a family of 11 protocols: `--with c=2` chooses one" in run.stderr
 
 
 @needs_program
@@ -114,6 +115,29 @@ def test_loops_and_sums() -> None:
         ("family m in 2\nfor i\n  {i}\n", 2, "is no range"),
         ("family m in 2\n\n{m % 0}\n", 3, "a division by 0"),
         ("family m in 2\n{m ^ 99}\n", 2, "an exponent is 0 to 64"),
+        ("family m in 1\nfor k in 1..1 if m is 2\n  {k}\n", 2, "a comparison has the signs < <= > >= = and !="),
+        ("family m in 1\nfor k in 1..1 if m is not 1\n  {k}\n", 2, "a comparison has the signs"),
+        ("family m in 1\nfor k in 1..1 if m in 2\n  {k}\n", 2, "a comparison has the signs"),
+        ("family m in 1\nfor k in 1..1 if m not in 2\n  {k}\n", 2, "a comparison has the signs"),
+        ("family m in 1\nfor k in 1..1 if k > 1 and m is 1\n  {k}\n", 2, "a comparison has the signs"),
+        ("family m in 1\nfor k in 1..1 if k == 1 or m == 1\n  {k}\n", 2, "after `if` comes a comparison"),
+        ("family m in 1\n[{k} for k in 1..1 if ]\n", 2, "a condition is missing"),
+        ("family m in 1\nfor k in 1..1 if\n  {k}\n", 2, "a condition is missing"),
+        ("family m in 1\n{+m}\n", 2, "a sum has the signs"),
+        ("family m in 1\n{m << 2}\n", 2, "a sum has the signs"),
+        ("family m in 0..2^64\n", 1, "it may have 1 to 10000"),
+        (
+            "family m in 1\nfor i in 1..2000, j in 1..2000 if i < 0\n  {i}\n",
+            2,
+            "the loops of the member go round over 1000000 times",
+        ),
+        ("family m in 1\n" + "x" * 9000 + "[" + "y" * 9000 + " for i in 1..9999]\n", 2, "characters"),
+        ("family m in 1\nfor " + ", ".join(["i in 1..1"] * 99) + "\n  {i}\n", 2, "at most 16 names"),
+        (
+            "family m in 1\n" + "".join(f"{' ' * i}for i in 1..1\n" for i in range(500)) + " " * 500 + "{i}\n",
+            18,
+            "at most 16 loops",
+        ),
     ],
 )
 def test_faults(text: str, line: int, told: str) -> None:
@@ -122,6 +146,22 @@ def test_faults(text: str, line: int, told: str) -> None:
         for values in members(text):
             member(text, values)
     assert caught.value.line == line and told in caught.value.told
+
+
+def test_a_fault_stands_at_its_part() -> None:
+    with pytest.raises(TextFault) as caught:
+        member("for k in 1..1, i in 1..k if m is 2\n  {k}\n", {"m": 1})
+    assert caught.value.column == 1 + "for k in 1..1, i in 1..k if m is 2".index("m is 2")
+
+
+def test_conditions_and_comments() -> None:
+    """`=` is read as in predicates, `min` has its comma, and a comment stays one."""
+    assert member("for i in 1..3 if i = 2 and m=5\n  {i}\n", {"m": 5}).text == "2\n"
+    assert member("for i in 1..3 if i >= 2 and i <= 2\n  {i}\n", {"m": 5}).text == "2\n"
+    assert member("for i in 1..min(m, 2), j in max(i, 2)..2\n  {i}{j}\n", {"m": 5}).text == "12\n22\n"
+    assert member("{m}  # of {3/4} and {m}", {"m": 5}).text == "5  # of {3/4} and {m}"
+    assert member('"#{m}" # {3/4}', {"m": 5}).text == '"#5" # {3/4}'
+    assert member("[{i} for i in 1..min(m, 2)]", {"m": 5}).text == "1 2"
 
 
 def test_a_fault_of_a_member_is_told_at_the_family_s_line() -> None:
@@ -145,3 +185,95 @@ def test_a_value_that_no_member_has_is_refused() -> None:
 
     run = pop("text", str(EXAMPLES / "families" / "flock.pop"), "--with", "c=99")
     assert run.returncode == 1 and "`c` is 2 to 12 in this family, found 99" in run.stderr
+
+
+@pytest.mark.parametrize("command", ["find", "refute", "simulate", "text"])
+def test_values_outside_the_declared_range_are_refused(command: str) -> None:
+    """By every command that takes a member; and as a job."""
+    family = str(EXAMPLES / "families" / "tower.pop")
+    for value in (1, 13):
+        run = pop(command, family, *(["x=3"] if command == "simulate" else []), "--with", f"c={value}")
+        assert run.returncode == 1 and f"`c` is 2 to 12 in this family, found {value}" in run.stderr
+    job = pop("sweep", "--job", f"simulate {family} crowd=x=5 seed=1 changes=5 with=c=13 net=0")
+    assert job.returncode == 2 and "`c=13` names no member of this family" in job.stderr
+
+
+TWO = """family a in 1..2
+family b in 4..5
+inputs x: A y: B
+for i in 1..1
+  A + B -> a + b
+A + b -> A + a
+B + a -> B + b
+a + b -> b + b
+yes A a
+computes x > y
+"""
+EACH = [
+    ("net",), ("bundle",), ("text",), ("explain",), ("find", "--text"), ("refute",), ("simulate", "x=3", "y=2"),
+    ("exact", "x=3", "y=2"), ("sweep", "x=3", "y=2", "--runs", "2"), ("draw", "--text"), ("page",),
+    ("export", "--prism", "x=3", "y=2"), ("check",), ("show",), ("run", "x=3", "y=2"), ("watch", "x=3", "y=2"),
+    ("settle", "x=3", "y=2"), ("play", "x=3", "y=2", "0,3"),
+]  # fmt: skip
+
+
+@needs_program
+@pytest.mark.parametrize("words", EACH, ids=lambda words: str(words[0]))
+def test_a_member_is_chosen_wherever_a_file_is_read(words: tuple[str, ...], tmp_path: Path) -> None:
+    """In the form of the hint; a member that isn't there is told, and a fault is that of the member alone."""
+    from .test_commands import pop
+
+    if words[0] in ("find", "exact"):
+        pytest.importorskip("scipy")
+    family = tmp_path / "two.pop"
+    family.write_text(TWO)
+    hinted = pop(words[0], str(family), *words[1:])
+    if words[0] not in ("find", "sweep"):
+        assert "is a family of 4 protocols: `--with a=1,b=4` chooses one" in hinted.stderr
+    made = pop(words[0], str(family), *words[1:], "--with", "a=1,b=4")
+    needs_proof = words[0] in ("bundle", "check", "show", "run", "watch", "settle")
+    if needs_proof:
+        assert "two.pop with a=1 b=4:3:1: this leaf has no proof" in made.stderr
+    else:
+        assert made.returncode in (0, 3) and made.stdout and "a family of" not in made.stderr, made.stderr
+        assert ": line 10: the predicate was read as" in made.stderr or words[0] == "play", made.stderr
+    other = pop(words[0], str(family), *words[1:], "--with", "a=3,b=4")
+    assert other.returncode == 1 and "`a` is 1 to 2 in this family, found 3" in other.stderr
+
+
+@needs_program
+def test_a_member_with_its_proof_is_checked(tmp_path: Path) -> None:
+    """By its own word, and not by that of the file."""
+    from .test_commands import pop
+
+    text = (EXAMPLES / "epidemic" / "epidemic.pop").read_text()
+    family = tmp_path / "f.pop"
+    family.write_text("family m in 1..2\n" + text)
+    made = pop("check", str(family), "--with", "m=2")
+    assert made.returncode == 0 and made.stdout.startswith("certified "), made.stderr
+
+
+def test_a_sweep_goes_over_the_members_that_are_chosen(tmp_path: Path) -> None:
+    """Values of some of the parameters are enough."""
+    from .test_commands import pop
+
+    family = tmp_path / "two.pop"
+    family.write_text(TWO)
+    made = pop("sweep", str(family), "x=3", "y=2", "--runs", "2", "--with", "b=5")
+    assert {line.split("  ")[0] for line in made.stdout.splitlines() if "  x=3 y=2" in line} == {
+        "two a=1 b=5",
+        "two a=2 b=5",
+    }
+
+
+def test_warnings_name_the_family_s_own_lines() -> None:
+    """And what is wrong with many moves alike is said once."""
+    from hurleyoak.text.membersof import load_member
+
+    text = "family m in 3..9\ninputs x: L0\nfor i in 0..m, j in 0..m\n  L{i} + L{j} -> L0 + L0\nyes L1\n\ncomputes 2x > m\n"
+    told = load_member(text.replace("> m", "> {m}"), {"m": 3}, "f.pop").warnings
+    assert told[0] == (
+        "6 moves are listed twice, for instance `L1 + L0 -> L0 + L0` (line 4, line 4); a move and its turn are one, so a"
+        " loop goes over `j in i..`"
+    )
+    assert any(line.startswith("line 7: the predicate was read as") for line in told) and len(told) <= 3

@@ -404,7 +404,7 @@ def test_neither_found() -> None:
 def test_find_through_bin_pop() -> None:
     run = pop("find", str(EXAMPLES / "and/net.json"), "x >= 3 && x + 2*y = 1 mod 3")
     assert run.returncode == 0 and program.check(run.stdout.strip()).status == 0
-    assert run.stderr.startswith("certified 5\nleaf 0: 1 layer, bound 2")
+    assert run.stderr.startswith("certified 5\ntame\nleaf 0: 1 layer, bound 2")
     assert (
         pop("refute", str(EXAMPLES / "majority/majority.pop"), "--agents", "5").stdout
         == "no flaw: all inputs of up to 5 agents plus helpers were tried\n"

@@ -51,7 +51,7 @@ VALUES = [bundle_in(path).value() for path in FILES]
 def test_each_example_in_both_readings_and_by_names(path: Path) -> None:
     bundle = bundle_in(path)
     line = path.with_suffix(".expected").read_text().strip()
-    assert verdict(bundle) == second(bundle.value()) == line
+    assert second(bundle.value()) == line and verdict(bundle) == line.split("\n")[0]
     assert any(isinstance(node, First) for node in bundle.proof[0].tree(False))
     told = drawn(explain(load(path.read_text(), "f"), bundle, line))
     assert strict_bundle(load(text_of(bundle.net, bundle), "f")) == strict_bundle(load(told, "f")) == bundle
@@ -146,19 +146,19 @@ def test_seeded_changes_are_read_alike_by_both_readings() -> None:
         except FormatFault:
             continue
         seen += 1
-        assert second(value) == own, seed
+        assert second(value).split("\n")[0] == own, seed
     assert seen > 10 * CHANGES
 
 
 @needs_program
 def test_seeded_changes_are_read_as_the_program_reads_them() -> None:
     for value in VALUES:
-        assert program.check(json.dumps(value)).first_line == second(value)
+        assert program.check(json.dumps(value)).text.rstrip("\n") == second(value)
     for seed in range(2 * CHANGES):
         value = changed(VALUES[seed % len(VALUES)], seed)
-        line = program.check(json.dumps(value)).first_line
-        if not line.startswith("fault"):
-            assert second(value) == line, seed
+        text = program.check(json.dumps(value)).text.rstrip("\n")
+        if not text.startswith("fault"):
+            assert second(value) == text, seed
 
 
 def random_nodes(rng: random.Random, leaf: Leaf) -> list[Node]:
@@ -270,7 +270,7 @@ def test_they_are_found_again(path: Path) -> None:
     bundle = bundle_in(path)
     found = found_in(LoadedNet("f", bundle.net, bundle.pred, [bundle.proof[0].pred]))
     line = path.with_suffix(".expected").read_text().strip()
-    assert found is not None and verdict(found) == second(found.value()) == line
+    assert found is not None and second(found.value()) == line and verdict(found) == line.split("\n")[0]
     assert len(found.proof[0].tree(False)) <= len(bundle.proof[0].tree(False))
 
 

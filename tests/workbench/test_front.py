@@ -12,7 +12,8 @@ import pytest
 from hurleyoak.engine import program
 from hurleyoak.show.ending import undecided_told
 from hurleyoak.engine.inputs import cut_json
-from hurleyoak.text.relaxed import in_form
+from hurleyoak.protocol.predicates import PredicateFault
+from hurleyoak.text.relaxed import in_form, read_form
 from hurleyoak.protocol.predicatereader import read_predicate
 from hurleyoak.protocol.predicates import value_at
 
@@ -33,7 +34,7 @@ READ: list[tuple[str, str, Callable[[int, int], bool]]] = [
     ("2*(x - y) > -3", "2*x - 2*y > -3", lambda x, y: 2 * (x - y) > -3),
     ("1 < x <= 5", "(x > 1 && x <= 5)", lambda x, y: 1 < x <= 5),
     ("x ≥ 3 and not y == 2", "x >= 3 && !(y = 2)", lambda x, y: x >= 3 and y != 2),
-    ("x <> 2 or (y => 1 & x = 0)", "x != 2 || (y >= 1 && x = 0)", lambda x, y: x != 2 or y >= 1 and x == 0),
+    ("x <> 2 or (y >= 1 & x = 0)", "x != 2 || (y >= 1 && x = 0)", lambda x, y: x != 2 or y >= 1 and x == 0),
     ("x - x < 1", "x - x < 1", lambda x, y: True),
     ("(x + y) % 5 == 4", "x + y = 4 mod 5", lambda x, y: (x + y) % 5 == 4),
     ("0 > y - x", "y - x < 0", lambda x, y: y < x),
@@ -52,6 +53,17 @@ def test_comparisons_are_read(text: str, form: str, meant: Callable[[int, int], 
     for x in range(9):
         for y in range(9):
             assert value_at(tree, [x, y]) == meant(x, y)
+
+
+@pytest.mark.parametrize("sign", ["=>", "->", "⇒", "→", "<=>", "<->", "⇔"])
+@pytest.mark.parametrize("lead", ["x >= 1", "(x >= 1)", "x = 1 mod 2", "!(x < 1)", "x"])
+def test_an_arrow_is_no_comparison(sign: str, lead: str) -> None:
+    """`x >= 1 => y >= 1` was meant as "if .. then", and is no chain: the sentence says how that is written."""
+    text = f"{lead} {sign} y >= 1"
+    assert in_form(text, ["x", "y"])[0] == text
+    with pytest.raises(PredicateFault) as caught:
+        read_form(text, ["x", "y"])
+    assert f"`A {sign} B` is written `" in caught.value.told and "!(A)" in caught.value.told
 
 
 def test_what_is_in_form_is_left_alone() -> None:

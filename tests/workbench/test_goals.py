@@ -250,11 +250,14 @@ def test_files_both_ways() -> None:
 
 
 @needs_program
-def test_show_doesn_t_take_goals_and_says_so() -> None:
+def test_show_names_the_goals() -> None:
+    """Each with its value, its layers and its sets, below the moves of its leaf."""
     run = pop("show", str(TELLING))
-    assert run.returncode == program.REFUSED and run.stdout == "fault: format /proof/0/layers kind\n"
-    assert "this proof has goals, and `show` takes proofs with layers alone" in run.stderr
-    assert "`check`, `run`, `watch`, `replay` and `settle` take it" in run.stderr
+    lines = run.stdout.splitlines()
+    assert run.returncode == program.DONE and lines[0].startswith("stable ") and lines[1].startswith("predicate ")
+    assert [line for line in lines if line.startswith("goal ")] == ["goal true", "goal false"]
+    assert max(at for at, line in enumerate(lines) if line.startswith("move ")) < lines.index("goal true")
+    assert any(line.startswith("set ") for line in lines[lines.index("goal true") :]) or "layer 0" in lines
 
 
 @needs_program

@@ -19,13 +19,14 @@ ORDER = (
     "engine",
     "search",
     "simulation",
+    "chain",
     "show",
     "library",
     "building",
     "serve",
     "cli",
 )
-BASE = ("limits", "version", "statuses", "faults", "saying", "wholes", "streams", "visible", "writing")
+BASE = ("limits", "version", "statuses", "faults", "saying", "wholes", "streams", "endings", "visible", "writing")
 
 
 def imported(path: Path) -> Iterator[str]:

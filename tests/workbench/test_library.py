@@ -9,7 +9,11 @@ from typing import Callable, cast
 import pytest
 
 import hurleyoak
+from hurleyoak.cli.commands.simulate import _limits
+from hurleyoak.cli.table import OWN
+from hurleyoak.cli.table.reading import read_words
 from hurleyoak.engine import places, program
+from hurleyoak.simulation.simulation import ENDLESS
 
 from .conftest import EXAMPLES, TOP, needs_program
 
@@ -22,6 +26,7 @@ def test_every_name_is_there() -> None:
     """All that the package says it has."""
     for name in hurleyoak.__all__:
         assert callable(getattr(hurleyoak, name)), name
+    assert dir(hurleyoak) == sorted(hurleyoak.__all__)
     with pytest.raises(AttributeError):
         getattr(hurleyoak, "nothing")
 
@@ -40,7 +45,13 @@ def test_texts() -> None:
 def test_runs() -> None:
     """A run, its curve and its picture as HTML."""
     run = hurleyoak.load(MAJORITY).simulate(x=30, y=10)
-    assert run.terminal and run.output is True and run.right and run.agents == 40 == sum(run.crowd.values())
+    assert (
+        run.terminal
+        and run.ended == "terminal"
+        and run.output is True
+        and run.right
+        and run.agents == 40 == sum(run.crowd.values())
+    )
     assert run.parallel_time == run.meetings / 40 and "measured, not proved" in run._repr_html_()
     assert len(run.times) == len(next(iter(run.curves.values())))
     pytest.importorskip("pandas")
@@ -77,6 +88,38 @@ def test_a_run_stops_after_meetings() -> None:
     """As `--until` does: a number of meetings is an end, too."""
     assert hurleyoak.load(MAJORITY).simulate(until=5, x=30, y=10).meetings == 5
     assert hurleyoak.load(MAJORITY).simulate(until="agreed", x=30, y=10).output is True
+
+
+@pytest.mark.parametrize(
+    "until, changes, ended",
+    [
+        (None, None, "terminal"),
+        ("terminal", None, "terminal"),
+        ("agreed", None, "agreed"),
+        ("settled", None, "settled"),
+        (5, None, "meetings"),
+        (5.0, None, "meetings"),
+        (None, 3, "changes"),
+        (10**6, 3, "changes"),
+    ],
+)
+def test_a_run_says_why_it_ended(until: str | float | None, changes: int | None, ended: str) -> None:
+    """The reason is a word of the run."""
+    stirring = "inputs x: A y: B\nA + A -> C + C\nC + C -> A + A\nA + B -> A + A\nC + B -> C + C\nyes A C\n"
+    protocol = hurleyoak.Protocol.parse(stirring) if ended == "settled" else hurleyoak.load(MAJORITY)
+    assert protocol.simulate(until=until, changes=changes, x=30, y=10).ended == ended
+
+
+def test_an_end_that_is_asked_for_lifts_the_usual_limit(monkeypatch: pytest.MonkeyPatch) -> None:
+    """The limit of changes is for runs of which nothing is said, by the library as on the command line."""
+    monkeypatch.setattr("hurleyoak.simulation.carrying.CHANGE_LIMIT", 50)
+    monkeypatch.setattr("hurleyoak.simulation.carrying.CHANGES_AN_AGENT", 1)
+    protocol = hurleyoak.Protocol.parse("inputs x: A\nA + A -> B + B\nB + B -> A + A\nyes A\n")
+    assert protocol.simulate(x=9).ended == "changes"
+    assert protocol.simulate(until=5_000, x=9).meetings == 5_000
+    asked: list[list[str]] = [["--until", "5000"], ["--until", "5000", "--changes", "30"], []]
+    limits = [_limits(read_words(OWN["simulate"], words)) for words in asked]
+    assert [one.most_changes(9) for one in limits] == [ENDLESS, 30, 50]
 
 
 @pytest.mark.parametrize(
@@ -153,7 +196,7 @@ def test_what_the_program_says() -> None:
     wrong = hurleyoak.Protocol.parse(EPIDEMIC.replace("x >= 1", "x >= 2")).refute(agents=3)
     assert wrong is not None and wrong.counts["x"] == 1
     made = hurleyoak.compile("x - y < 1000")
-    assert made.check().bound == 22 and "helpers" in repr(made)
+    assert made.check().bound == 25 and made.check().tame and "helpers" in repr(made)
     assert hurleyoak.compile("x >= 1000", helpers=False).net.leaves[0].helpers == ()
     with pytest.raises(hurleyoak.InputFault):
         hurleyoak.compile("x - y < 1000", helpers=False)

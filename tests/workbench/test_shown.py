@@ -81,7 +81,7 @@ def agree(text: str, value: Any) -> None:
     checked, answer = program.ask(CHECK, text), program.ask(SHOW, text)
     assert answer.status == checked.status
     if checked.status == program.DONE:
-        assert answer.text == shown(value, checked.first_line)
+        assert answer.text == shown(value, checked.text.removesuffix("\n"))
     else:
         assert answer.text == checked.text
 

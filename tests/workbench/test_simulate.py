@@ -1,6 +1,7 @@
 """The simulation by counts against exact distributions, and against the meetings of the program's runs."""
 from __future__ import annotations
 
+import subprocess
 from collections import Counter
 from fractions import Fraction
 from functools import lru_cache
@@ -19,12 +20,12 @@ from hurleyoak.simulation.geometric import skipped
 from hurleyoak.simulation.journals import Agents, meetings_of
 from hurleyoak.protocol.reactions import Reactions, Word
 from hurleyoak.simulation.carrying import Limits, carry_out
-from hurleyoak.simulation.simulation import AGREED, MEETINGS, TERMINAL, Simulation
+from hurleyoak.simulation.simulation import AGREED, MEETINGS, SETTLED, TERMINAL, Simulation
 from hurleyoak.text.files import load, load_path
 from hurleyoak.text.loaded import strict_bundle
 from hurleyoak.protocol.nets import Net
 
-from .conftest import EXAMPLES, needs_program
+from .conftest import EXAMPLES, TOP, needs_program
 from .test_commands import pop
 
 SAMPLES = 4000
@@ -247,6 +248,25 @@ def test_until() -> None:
     assert three.ended == MEETINGS and three.meetings == 10 >= three.last_change
 
 
+def test_until_outputs_stay() -> None:
+    """A protocol that never falls silent ends where no output can change any more, and not where all agree before."""
+    net = load(
+        "inputs x: A y: B\nA + B -> C + C\nC + C -> D + E\nD + E -> E + D\nD + D -> E + E\nyes A C E D\n", "t"
+    ).net
+    run = Simulation(net, (5, 30), 1)
+    carry_out(run, Limits(SETTLED), None)
+    assert run.ended != SETTLED and run.output is None
+    run = Simulation(net, (30, 0), 1)
+    carry_out(run, Limits(SETTLED), None)
+    assert (run.ended, run.meetings) == (TERMINAL, 0)
+    stirring = load(
+        "inputs x: A y: B\nA + A -> C + C\nC + C -> A + A\nA + B -> A + A\nC + B -> C + C\nyes A C\n", "t"
+    ).net
+    run = Simulation(stirring, (5, 30), 1)
+    carry_out(run, Limits(SETTLED), None)
+    assert run.ended == SETTLED and run.output and run.since == run.meetings and not run.is_terminal
+
+
 def test_a_million_changes_take_less_than_ten_seconds() -> None:
     run = Simulation(net_at("majority/majority.pop"), (10**5 + 1, 10**5), 3)
     start = process_time()
@@ -295,3 +315,29 @@ def test_the_command(tmp_path: Path) -> None:
 def test_faults(words: list[str], status: int, told: str) -> None:
     run = pop("simulate", str(EXAMPLES / "epidemic/epidemic.pop"), *words)
     assert run.returncode == status and told in run.stderr and "Traceback" not in run.stderr
+
+
+LASTING = """
+import sys
+from hurleyoak.cli import progress
+from hurleyoak.simulation import carrying
+from hurleyoak.__main__ import start
+progress.LONG, carrying.CHANGE_LIMIT, carrying.CHANGES_AN_AGENT = 0.0, 50_000, 1
+sys.argv[1:] = ["simulate", "-", "x=9", *sys.argv[1:]]
+sys.exit(start())
+"""
+
+
+@pytest.mark.parametrize("words, told", [([], 1), (["--changes", "50000"], 0), (["--until", "99999"], 0)])
+def test_a_run_that_goes_on_says_so_at_a_pipe(words: list[str], told: int) -> None:
+    """Once, where no end was asked for."""
+    run = subprocess.run(
+        ["/usr/bin/python3", "-c", LASTING, *words],
+        input="inputs x: A\nA + A -> B + B\nB + B -> A + A\nyes A\n",
+        cwd=TOP,
+        capture_output=True,
+        text=True,
+        check=False,
+    )
+    assert run.stderr.count("changes; the run goes on; `--until` names an earlier end") == told
+    assert run.stderr.count("\n") == told and "not terminal" in run.stdout

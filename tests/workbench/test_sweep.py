@@ -250,7 +250,7 @@ def test_jobs_are_listed_in_chunks() -> None:
         ([EPIDEMIC, "x=5", "--runs", "0"], program.USAGE, "`--runs`"),
         ([EPIDEMIC, "x=5", "--gather", "/nowhere"], program.REFUSED, "/nowhere"),
         (["--job"], program.USAGE, "jobs"),
-        (["--job", "a b"], program.USAGE, "a job is done by simulate or by run"),
+        (["--job", "a b"], program.USAGE, "these are no words of a job"),
         ([EPIDEMIC, "x=5", "--hosts", "/nowhere", "--jobs", "2"], program.REFUSED, "/nowhere: No such file"),
     ],
 )
@@ -323,3 +323,21 @@ def test_a_lost_host_leaves_no_gap(tmp_path: Path) -> None:
     finally:
         for host in hosts:
             host.lose()
+
+
+@pytest.mark.skipif(not shutil.which("parallel"), reason="GNU parallel is wanted: apt-get install parallel")
+@pytest.mark.parametrize("line", ["a'b", "-oProxyCommand=touch made", "2/-F here", "''"])
+def test_a_line_that_is_no_host(tmp_path: Path, line: str) -> None:
+    """It is refused by a sentence, and ssh sees nothing of it."""
+    (tmp_path / "hosts").write_text(f":\n{line}\n")
+    run = pop("sweep", EPIDEMIC, "x=1", "y=5", "--hosts", str(tmp_path / "hosts"), folder=tmp_path)
+    assert run.returncode == program.REFUSED and f"`{line}` is no host" in run.stderr
+    assert "Traceback" not in run.stderr and not (tmp_path / "made").exists()
+
+
+@pytest.mark.parametrize("word", ["with=m=x", "with=m", "seed=\u0663", "seed=-1", "changes=x", "meetings="])
+def test_words_that_are_no_job(word: str) -> None:
+    """Each is told as a fault of usage, whatever number is missing in it."""
+    words = f"simulate {EPIDEMIC} crowd='x=1 y=5' seed=1 changes=5 net=0 {word}"
+    run = pop("sweep", "--job", words)
+    assert run.returncode == program.USAGE and "no words of a job" in run.stderr and "Traceback" not in run.stderr

@@ -149,7 +149,6 @@ WARNINGS = [
         "line 4: `B + A -> b + b` is hidden by `A + B -> a + b` (line 2): a run takes the first",
     ),
     (NET + "c + A -> A + A\n", "no agent ever comes to state c"),
-    (NET + "format 1\nhelpers A\n", "`helpers` in a net of format 1 is ignored"),
 ]
 
 
@@ -157,10 +156,18 @@ WARNINGS = [
 def test_warnings(text: str, told: str) -> None:
     loaded = load(text, "f")
     assert len(loaded.warnings) == 1 and loaded.warnings[0].startswith(told)
-    value = loaded.net.value()
-    if "format 1" in text:
-        value["leaves"][0]["helpers"] = [0]
-    assert len(load(compact(value), "f").warnings) == 1
+    assert len(load(compact(loaded.net.value()), "f").warnings) == 1
+
+
+def test_helpers_of_format_1() -> None:
+    """By names they are a fault: the text would say more than the net that is certified. In JSON they are ignored."""
+    for text in (NET + "format 1\nhelpers A\n", "format 1\nhelpers 2*A\n" + NET):
+        with pytest.raises(InputFault) as caught:
+            load(text, "f")
+        assert "a net of format 1 has no helpers: write `format 2`" in str(caught.value)
+    value = load(NET, "f").net.value()
+    value["leaves"][0]["helpers"] = [0]
+    assert load(compact(value), "f").warnings == ['`helpers` in a net of format 1 is ignored: it needs `"format":2`']
 
 
 def test_a_silent_move_hides_none() -> None:

@@ -41,6 +41,29 @@ def test_a_list_without_a_name_is_refused(name: str, theorems: ModuleType) -> No
         theorems.reading_list("To believe `certified`", "", listed - taken, rests, but)
 
 
+@pytest.mark.parametrize("at", [0, 1])
+def test_a_way_with_a_hole_is_refused(at: int, theorems: ModuleType) -> None:
+    """From what the call ensures down to the headline each step names the next."""
+    rests = theorems.Rests(theorems.all_definitions())
+    promised = {theorems.WAY[0]}
+    assert theorems.broken_way(promised, rests) is None
+    rests.direct[theorems.WAY[at]] -= {theorems.WAY[at + 1]}
+    with pytest.raises(SystemExit, match=theorems.WAY[at][2]):
+        theorems.way_down(promised, rests)
+
+
+def test_a_call_that_ensures_something_else_is_refused(theorems: ModuleType) -> None:
+    rests = theorems.Rests(theorems.all_definitions())
+    with pytest.raises(SystemExit, match=theorems.TOP_CALL):
+        theorems.way_down(set(), rests)
+
+
+def test_a_list_begins_with_fields_that_are_there(theorems: ModuleType) -> None:
+    rests = theorems.Rests(theorems.all_definitions())
+    with pytest.raises(SystemExit, match="no field"):
+        theorems.named_by(("check", "no_such_field"), rests)
+
+
 def test_a_document_without_a_name_is_refused(
     theorems: ModuleType, tmp_path: Path, monkeypatch: pytest.MonkeyPatch
 ) -> None:

@@ -3,9 +3,9 @@ from __future__ import annotations
 
 from ...protocol.laws import LAWS_TOLD
 from ...show.netdrawing import about_text, dot_text, draw, table_text
-from ...text.files import load_path
 from ...statuses import DONE
 from . import warn
+from .inputs import load_given
 from ..usage import UsageFault
 from ..table.reading import Given, takes
 from .simulate import net_title
@@ -18,7 +18,7 @@ def run(given: Given) -> int:
         raise UsageFault(f"a picture goes to a file or to the terminal: {takes(given.command)}")
     if path is not None and not path.endswith((".svg", ".png")):
         raise UsageFault(f"`-o` is followed by a file that ends in .svg or .png, found `{path}`")
-    loaded = load_path(given.path)
+    loaded = load_given(given)
     warn([told for told in loaded.warnings if told != LAWS_TOLD], loaded.name)
     title = given.text("--title") or (net_title(loaded) if given.words else "")
     text = dot_text(loaded.net, title, about_text(loaded.net))

@@ -7,11 +7,11 @@ from ...show.drawing import drawn
 from ...show.explaining import bundle_to_explain, explain
 from ...faults import InputFault
 from ...simulation.meetings import is_list, read_meetings, steps_of
-from ...text.files import load, read_text
+from ...text.files import read_text
 from ...text.given import with_predicate
 from ..table.reading import Given
 from . import warn
-from .inputs import named
+from .inputs import load_read, named
 
 
 def run(given: Given) -> int:
@@ -19,7 +19,7 @@ def run(given: Given) -> int:
     text = read_text(given.path)
     if is_list(text):
         return _meetings(given, text)
-    loaded = load(text, named(given.path))
+    loaded = load_read(given, given.path, text)
     if len(given.words) == 2:
         own = loaded.predicate
         has_proof = loaded.has_proof
@@ -32,7 +32,7 @@ def run(given: Given) -> int:
     warn(loaded.warnings, loaded.name)
     bundle = bundle_to_explain(loaded)
     answer = program.check(bundle.line())
-    told = explain(loaded, bundle, answer.first_line)
+    told = explain(loaded, bundle, answer.text)
     if given.has("--html"):
         from ...show.page import page
 

@@ -4,6 +4,7 @@ from __future__ import annotations
 from pathlib import Path
 
 from ..usage import UsageFault
+from ...library.asked import met
 from ...serve.still import curve_value, measured, named_text, page_value, still_page, usual_counts
 from ...simulation.crowds import counts_of, split_words
 from ...simulation.curves import read_trace
@@ -31,7 +32,8 @@ def run(given: Given) -> int:
     ]
     if words or not curves:
         counts = counts_of(loaded.net, words) if words else usual_counts(loaded)
-        curves.append(curve_value(*measured(loaded, counts, given.whole("--seed"))))
+        if counts is not None:
+            curves.append(curve_value(*measured(loaded, met(loaded, counts), given.whole("--seed"))))
     value = page_value(loaded, title, text, curves)
     print(still_page(value), end="")
     return DONE if value["check"] is None or value["check"]["good"] else REJECTED

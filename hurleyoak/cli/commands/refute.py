@@ -7,7 +7,6 @@ import time
 from ...engine import program
 from ..usage import UsageFault
 from ...limits import AGENT_LEAST
-from ...text.loaded import Loaded
 from ..table.reading import Given
 from .find import NOT_FOUND, show_flaw
 from .inputs import loaded_of
@@ -41,16 +40,12 @@ class _Progress:
             print(file=sys.stderr)
 
 
-def that_meet(loaded: Loaded) -> str:
-    """Which inputs are meant, where a file assumes something."""
-    return f" that meet {' and '.join(f'`{text}`' for text in loaded.assumed)}" if loaded.assumed else ""
-
-
 def run(given: Given) -> int:
     """Tells a counterexample, or up to how many agents there is none."""
     loaded = loaded_of(given)
     tree = loaded.whole_tree()
     from ...search.explore import explore
+    from ...search.limits import ending
     from ...search.whole import system_of
 
     agents = given.whole("--agents") if given.has("--agents") else None
@@ -58,10 +53,14 @@ def run(given: Given) -> int:
     if agents is not None and agents < least:
         raise UsageFault(f"`--agents` is {least} at least: a crowd of this net has {AGENT_LEAST} agents, or more")
     progress = _Progress()
-    flaw, tried = explore(system_of(loaded.net), tree, agents, given.number("--seconds"), progress, loaded.meets)
+    seconds = given.number("--seconds")
+    with ending(seconds):
+        flaw, tried = explore(system_of(loaded.net), tree, agents, seconds, progress, loaded.meets)
     progress.end()
     if flaw is not None:
         return show_flaw(loaded, flaw, given.text("--write"))
+    from ...show.telling import that_meet, untried_told
+
     whole = tried.agents
     if tried.restless is not None:
         from ...show.telling import OFFERED, restless_told
@@ -69,8 +68,8 @@ def run(given: Given) -> int:
         assert loaded.predicate is not None
         print(restless_told(loaded.net, tree, loaded.predicate, tried.restless, tried, OFFERED))
         return NOT_FOUND
-    if not tried.inputs and loaded.assumed:
-        print(f"no input was tried: none of up to {whole} agents plus helpers is one of those{that_meet(loaded)}")
+    if untried := untried_told(loaded, tried):
+        print(untried)
         return NOT_FOUND
     print(
         f"no flaw: all inputs of up to {whole} agents plus helpers{that_meet(loaded)} were tried"

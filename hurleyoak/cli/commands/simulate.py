@@ -8,13 +8,18 @@ from ...simulation.curves import Recorder
 from ..progress import Progress
 from ...show.outcome import told
 from ...simulation.limits import MEETING_LIMIT
+from ...simulation.asking import is_stop
 from ...simulation.carrying import Limits, carry_out
-from ...simulation.simulation import AGREED, ENDLESS, MEETINGS, TERMINAL, Simulation, Stop
+from ...simulation.kernelled import KernelRun
+from ...simulation.kernelled import carry_out as carry_out_by_kernel
+from ...simulation.timeline import BY_AGENT, BY_ROUND
+from ...simulation.simulation import AGREED, ENDLESS, MEETINGS, SETTLED, TERMINAL, Simulation, Stop
 from ...faults import InputFault
-from ...text.files import STANDARD_INPUT
+from ...text.files import STANDARD_INPUT, in_volume
 from ...text.given import with_predicate
 from ...text.loaded import Loaded
 from ...protocol.laws import LAWS_TOLD
+from ...protocol.nets import Net
 from ...protocol.predicates import value_at
 from ...statuses import DONE, UNDECIDED
 from ...writing import write_text
@@ -23,7 +28,12 @@ from ..usage import UsageFault
 from ..table.behaviour import ENSEMBLE_RUNS
 from ..table.reading import Given, takes
 from .inputs import load_given
+from .modelled import is_modelled, pace_of, placing_of
+from .modelled import run as modelled
 from ...wholes import is_whole
+
+
+ENDS = "the run goes on; `--until` names an earlier end, and `--changes N` stops it"
 
 
 def net_title(loaded: Loaded) -> str:
@@ -44,12 +54,25 @@ def value_of(loaded: Loaded, counts: tuple[int, ...]) -> bool | None:
 
 def _limits(given: Given) -> Limits:
     until = given.text("--until") or TERMINAL
-    changes = given.whole("--changes") if given.has("--changes") else None
-    if until in (TERMINAL, AGREED):
+    usual = ENDLESS if "--until" in given.named else None
+    changes = given.whole("--changes") if given.has("--changes") else usual
+    if is_stop(until):
+        return Limits(TERMINAL, ENDLESS, changes)
+    if until in (TERMINAL, AGREED, SETTLED):
         return Limits(Stop(until), ENDLESS, changes)
     if not is_whole(until):
-        raise UsageFault(f"`--until` is followed by `terminal`, `agreed` or a number of meetings, found `{until}`")
+        raise UsageFault(
+            "`--until` is followed by `terminal`, `agreed`, `settled`, a number of meetings, `time 5` or a condition"
+            f" on states as in `X = 0`, found `{until}`"
+        )
     return Limits(MEETINGS, whole_word("--until", until, 0, MEETING_LIMIT), changes)
+
+
+def simulation_of(given: Given, net: Net, counts: tuple[int, ...], seed: int) -> Simulation:
+    """The run that is asked for: by the kernel, or here."""
+    if given.has("--kernel"):
+        return KernelRun(net, counts, seed, given.has("--trace"))
+    return Simulation(net, counts, seed)
 
 
 def many(given: Given, loaded: Loaded, counts: tuple[int, ...], limits: Limits, value: bool | None) -> int:
@@ -59,14 +82,22 @@ def many(given: Given, loaded: Loaded, counts: tuple[int, ...], limits: Limits, 
 
     runs = given.whole("--runs") if given.has("--runs") else ENSEMBLE_RUNS
     every, trace = given.number("--every"), given.text("--trace")
-    if every <= 0 or limits.until == AGREED or limits.changes is not None:
+    if every <= 0 or limits.until in (AGREED, SETTLED) or given.has("--changes"):
         raise UsageFault(
             "`--every` is followed by meetings per agent above 0; it goes with `--until terminal` or a number of"
             " meetings, and without `--changes`"
         )
+    if given.texts("--at") or given.has("--from") or is_stop(given.text("--until") or ""):
+        raise UsageFault("`--every` makes plain runs: it goes without `--at`, `--from`, times and conditions")
+    if given.has("--map"):
+        raise UsageFault("`--map` keeps one run, and `--every` makes many")
     progress = Progress()
+    agents = sum(counts) + len(loaded.net.leaves[0].helpers)
+    placing = placing_of(given, agents)
+    pace = pace_of(given, loaded, agents) if placing is None else BY_ROUND if placing.rounds else BY_AGENT
+    net = loaded.net if pace.volume is None else in_volume(loaded, agents, pace.volume).net
     made = ensemble(
-        loaded.net,
+        net,
         counts,
         given.whole("--seed"),
         runs,
@@ -74,11 +105,17 @@ def many(given: Given, loaded: Loaded, counts: tuple[int, ...], limits: Limits, 
         limits.meetings,
         net_title(loaded),
         lambda done: progress(lambda: f"{done:,} of {runs:,} runs"),
+        pace,
+        given.whole("--jobs"),
+        placing,
+        given.has("--kernel"),
     )
     progress.end()
     if trace is not None:
         write_text(trace, made.text())
-    print("\n".join(told_of(made, value)))
+    graph = [placing.graph.told()] if placing is not None and placing.graph is not None else []
+    lines = told_of(made, value)
+    print("\n".join([*lines[:-1], *graph, lines[-1]]))
     return DONE if made.terminal == runs or limits.until == MEETINGS else UNDECIDED
 
 
@@ -95,22 +132,28 @@ def run(given: Given) -> int:
     if predicate is not None:
         loaded = with_predicate(loaded, predicate)
     warn([told for told in loaded.warnings if told != LAWS_TOLD], loaded.name)
+    if given.has("--kernel") and (loaded.network is not None or is_modelled(given, loaded, count_words)):
+        raise UsageFault(
+            "`--kernel` makes plain runs from counts of variables: it goes without events, volumes, graphs, rounds,"
+            " `--from`, times and conditions"
+        )
+    if not given.has("--every") and is_modelled(given, loaded, count_words):
+        return modelled(given, loaded, count_words, limits)
     counts = counts_of(loaded.net, count_words)
     if not loaded.meets(counts):
         raise InputFault(f"{loaded.name}: this crowd doesn't meet what the file assumes: {', '.join(loaded.assumed)}")
     value = value_of(loaded, counts)
     if given.has("--every"):
         return many(given, loaded, counts, limits, value)
-    simulation = Simulation(loaded.net, counts, seed)
     recorder = Recorder() if trace is not None else None
-    progress = Progress()
-    carry_out(
-        simulation,
-        limits,
-        value,
-        recorder.watch(simulation) if recorder else None,
-        lambda: progress(lambda: f"{simulation.meetings:,} meetings, {simulation.changes:,} changes"),
-    )
+    simulation = simulation_of(given, loaded.net, counts, seed)
+    progress = Progress("" if {"--until", "--changes"} & given.named else ENDS)
+    watch = recorder.watch(simulation) if recorder else None
+    tell = lambda: progress(lambda: f"{simulation.meetings:,} meetings, {simulation.changes:,} changes")  # noqa: E731
+    if isinstance(simulation, KernelRun):
+        carry_out_by_kernel(simulation, limits, value, watch, tell)
+    else:
+        carry_out(simulation, limits, value, watch, tell)
     progress.end()
     if recorder and trace is not None:
         write_text(trace, recorder.curve(simulation, net_title(loaded), crowd_words(loaded.net, counts), seed).text())

@@ -11,14 +11,26 @@ from typing import Iterator, Mapping, Sequence
 from ...simulation.crowds import counts_of, crowd_words, split_words
 from ..progress import Progress
 from ...simulation.sharing import POP, Gathered, done_here, journal_of, read_folder, shared
+from ...simulation.graphs import is_by_name
 from ...simulation.sizes import sizes_of
-from ...simulation.sweepjobs import BY_RUN, BY_SIMULATE, RUN_MEETINGS, Job, Way, load_net, mark_of, read_job, result_of
+from ...simulation.sweepjobs import (
+    BY_KERNEL,
+    BY_RUN,
+    BY_SIMULATE,
+    RUN_MEETINGS,
+    Job,
+    Way,
+    load_net,
+    mark_of,
+    read_job,
+    result_of,
+)
 from ...simulation.table import Row, aligned, csv_text, growths, row_of
 from ...faults import InputFault
 from ...protocol.laws import LAWS_TOLD
 from ...text.families import member_name
 from ...text.files import STANDARD_INPUT, read_text
-from ...text.membersof import members_of
+from ...text.membersof import WITH, NoMember, chosen, found_none, meant, members_of
 from ...statuses import DONE, UNDECIDED
 from ...writing import write_text
 from . import JOB_WORD, warn
@@ -26,7 +38,7 @@ from ..usage import UsageFault
 from ..table.reading import Given, takes
 from .simulate import title_of
 
-SAID = ("--by", "--changes", "--meetings", "--runs", "--seed")
+SAID = ("--by", "--changes", "--graph", "--meetings", "--runs", "--seed")
 
 
 @dataclass(frozen=True)
@@ -48,12 +60,21 @@ def _groups(given: Given) -> list[Group]:
     if any("\n" in path for path in files):
         raise UsageFault("the name of a net's file has a line feed: jobs are given a line each")
     sizes = sizes_of(ranges)
-    return [group for path in files for member in _members(path) for group in _groups_of(given, path, member, sizes)]
+    return [
+        group for path in files for member in _members(given, path) for group in _groups_of(given, path, member, sizes)
+    ]
 
 
-def _members(path: str) -> list[str]:
-    """The members of a family by their names; one without a name where the file has one protocol."""
-    return [member_name(values) for values in members_of(read_text(path), path)] or [""]
+def _members(given: Given, path: str) -> list[str]:
+    """The members of a family by their names, all or those that `--with` names; one without a name where the file has
+    one protocol."""
+    found, asked = members_of(read_text(path), path), given.text(WITH)
+    try:
+        if asked is not None:
+            found = meant(chosen(asked), found) if found else found_none(path)
+    except NoMember as fault:
+        raise UsageFault(str(fault)) from None
+    return [member_name(values) for values in found] or [""]
 
 
 def _groups_of(given: Given, path: str, member: str, sizes: Sequence[Mapping[str, int]]) -> Iterator[Group]:
@@ -71,6 +92,8 @@ def _groups_of(given: Given, path: str, member: str, sizes: Sequence[Mapping[str
         predicate=predicate,
         mark=mark_of(loaded),
         member=member,
+        graph=_graph(given),
+        rounds=given.has("--rounds"),
     )
     for size in sizes:
         counts = counts_of(loaded.net, [f"{name}={k}" for name, k in size.items()])
@@ -80,13 +103,23 @@ def _groups_of(given: Given, path: str, member: str, sizes: Sequence[Mapping[str
             yield Group(f"{title_of(path)} {member}".rstrip(), crowd, jobs)
 
 
+def _graph(given: Given) -> str:
+    """The graph of the jobs, a file by its whole path."""
+    text = given.text("--graph") or ""
+    if (text or given.has("--rounds")) and given.text("--by") == BY_RUN:
+        raise UsageFault("`--by run` is of meetings of all pairs: it goes without `--graph` and `--rounds`")
+    if (text or given.has("--rounds")) and given.text("--by") == BY_KERNEL:
+        raise UsageFault("`--by kernel` is of meetings of all pairs: it goes without `--graph` and `--rounds`")
+    return text if not text or is_by_name(text) else str(Path(text).absolute())
+
+
 def _told(given: Given) -> str:
     """The words that say what was measured."""
     nets = [title_of(word) for word in given.words if "=" not in word]
     sizes = [word for word in given.words if "=" in word]
     usual = {option.name: option.usual for option in given.command.options}
     said = [f"{name} {given.text(name)}" for name in SAID if given.values[name] != usual[name]]
-    return "  ".join([" ".join(nets), " ".join(sizes), *said])
+    return "  ".join([" ".join(nets), " ".join(sizes), *said, *(["--rounds"] if given.has("--rounds") else [])])
 
 
 def do_jobs(words: list[str]) -> int:
@@ -161,8 +194,8 @@ def run(given: Given) -> int:
         raise InputFault(f"none of the {len(jobs)} runs has a result")
     if csv is not None:
         write_text(csv, csv_text(rows, _told(given)))
-    print(aligned(rows))
-    print("\n".join(["", *growths(rows), "measured, and not proved"]))
+    text = "\n".join([aligned(rows), "", *growths(rows), "measured, and not proved"])
+    print(text.replace("meetings to ", "rounds to ") if given.has("--rounds") else text)
     if missing:
         print(
             f"pop: {missing} of {len(jobs)} runs are missing; `--list` prints those that `--gather` doesn't find",

@@ -1,11 +1,10 @@
 """`pop text [FILE]`: the `.pop` file of a net or a bundle."""
 from __future__ import annotations
 
-from ...compiler.worths import worths_told
 from ...text.loaded import strict_bundle
 from ...statuses import DONE
 from ...text.reactionfile import network_text
-from ...text.writer import head, text_of
+from ...text.writer import head, loaded_text, with_worths
 from ..table.reading import Given
 from . import warn
 from .inputs import load_given
@@ -19,9 +18,7 @@ def run(given: Given) -> int:
         print(network_text(loaded.net), end="")
         return DONE
     has_proof = loaded.has_proof
-    text = text_of(loaded.net, strict_bundle(loaded) if has_proof else None, loaded.labels)
-    told = [line for leaf in loaded.net.leaves for line in worths_told(leaf)]
-    text = "".join(f"# {line}\n" for line in dict.fromkeys(told)) + text
+    text = with_worths(loaded.net, loaded_text(loaded, strict_bundle(loaded) if has_proof else None))
     if not has_proof and loaded.predicate is not None:
         text += head("predicate", loaded.predicate) + "\n"
     print(text, end="")

@@ -4,12 +4,20 @@ from __future__ import annotations
 import sys
 
 from ..table import Command, all_commands
-from ..table.shape import Kind, Option
+from ..table.shape import Kind, Option, file
+
+
+OUTPUT = file("--output", "writes what is printed to a file", "-o")
+
+
+def options_of(page: Command) -> tuple[Option, ...]:
+    """The options of a command, and `-o`, which every command takes that writes no file otherwise."""
+    return page.options if page.writes else (*page.options, OUTPUT)
 
 
 def option_words(page: Command) -> list[str]:
     """The options of a command, without their values."""
-    return [option.short or option.name for option in page.options]
+    return [option.short or option.name for option in options_of(page)]
 
 
 def bash() -> str:
@@ -58,7 +66,7 @@ def zsh() -> str:
     cases = []
     for page in pages:
         if page.files or page.options:
-            options = " ".join(map(_zsh_option, page.options))
+            options = " ".join(map(_zsh_option, options_of(page)))
             cases.append(
                 f"        {page.word}) _arguments {options + ' ' if options else ''}'--help[the help page]' "
                 "'*:file:_files' ;;"

@@ -19,7 +19,7 @@ HEAD = (
         "predicate of"
     ),
     (
-        "their input. pop checks proofs that a protocol computes its predicate for crowds of every size, and runs, "
+        "their input. pop checks proofs that a protocol computes its predicate for crowds of two agents or more, and runs, "
         "settles, plays,"
     ),
     "compiles and replays protocols.",
@@ -80,6 +80,7 @@ def manual() -> str:
         number, told = status.split(" ", 1)
         lines += [".TP", f".B {number}", escaped(told)]
     lines += [".SH ENVIRONMENT", ".TP", ".B POP_MAIN", escaped("the program, in place of the one that pop builds")]
+    lines += [".TP", ".B POP_KERNEL", escaped("the kernel, in place of the one that pop builds")]
     return "\n".join(lines) + "\n"
 
 

@@ -2,15 +2,24 @@
 from __future__ import annotations
 
 from ...simulation.limits import CHANGES_ASKED, MEETING_LIMIT, SEED_LIMIT
-from .protocols import MEMBER
+from .protocols import MEMBER, WORDS_LIMIT
 from .shape import Command, Kind, Option, choice, file, flag, number, text, whole
 
 RUN_LIMIT, PLACE_LIMIT = 100_000, 1_000
 ENSEMBLE_LIMIT, CHUNK_LIMIT = 10_000, 1_000
 ENSEMBLE_RUNS = 20
 PORT_LIMIT = 65_535
-WORDS_LIMIT = 99
+TOP_LIMIT = 1_000_000
 
+GRAPH = Option(
+    "--graph",
+    "neighbours meet: ring, star, `grid 5x4`, `random 3` (neighbours of each), or a file with edges",
+    Kind.TEXT,
+    "GRAPH",
+    joins=("grid", "random"),
+)
+MEMBERS = text("--with", "the members of a family with these values alone, as in `c=7` or `m=5,r=1`", "VALUES")
+ROUNDS = flag("--rounds", "in each round many pairs meet at once: a random matching")
 
 BEHAVIOUR = (
     Command(
@@ -23,20 +32,73 @@ BEHAVIOUR = (
             "output is the predicate's value. It is one run, and nothing is proved by it."
         ),
         (
-            "pop simulate examples/majority/majority.pop x=480 y=520 --seed 1",
+            "pop simulate examples/tellers/tellers.pop x=520 y=480 --seed 1",
             "pop simulate examples/epidemic/net.json x=1 y=999999 --predicate 'x >= 1'",
         ),
         (
             whole("--seed", "from which the pairs are drawn", 0, 0, SEED_LIMIT),
-            Option("--until", "terminal, agreed, or a number of meetings", Kind.TEXT, "WHEN", "terminal"),
-            whole("--changes", "stops after N changes (10,000,000, or 10 for each agent)", None, 0, CHANGES_ASKED),
+            Option(
+                "--until",
+                "terminal, agreed, settled, a number of meetings, `time 5`, or a condition as in `X = 0`",
+                Kind.TEXT,
+                "WHEN",
+                "terminal",
+            ),
+            Option(
+                "--at",
+                "lets something happen at a time: `add 10 X`, `remove 10 percent of X`, `turn 5 X into Y`",
+                Kind.TEXT,
+                "T EVENT",
+                repeats=True,
+                is_pair=True,
+            ),
+            file("--from", "begins with the last crowd of a trace"),
+            number("--volume", "the volume of a reaction network, for its own time (the agents less one)", None),
+            GRAPH,
+            ROUNDS,
+            file("--map", "keeps the graph with the agents' states at some times, for `pop plot`"),
+            whole(
+                "--changes",
+                "stops after N changes (without `--until` 10,000,000, or 10 for each agent)",
+                None,
+                0,
+                CHANGES_ASKED,
+            ),
             text("--predicate", "compares the output with its value"),
             file("--trace", "keeps the crowd over time, for `pop plot`"),
+            flag("--kernel", "the proved kernel draws: faster, from another stream of random numbers"),
             number("--every", "makes many runs, and looks at each after every N meetings per agent", None),
             whole("--runs", f"how many runs `--every` makes ({ENSEMBLE_RUNS})", None, 1, ENSEMBLE_LIMIT),
+            whole("--jobs", "N runs of `--every` in parallel", 1, 1, PLACE_LIMIT),
             MEMBER,
         ),
         module="simulate",
+        words=WORDS_LIMIT,
+    ),
+    Command(
+        "exact",
+        "a small crowd's Markov chain: chances of its ends, meetings to them",
+        ("pop exact [FILE] x=5 y=4 [OPTION VALUE]..", "pop exact [FILE] --agents 2..12"),
+        (
+            "The chance of each terminal crowd and of each output, with the mean and the deviation of the meetings to "
+            "the end. If no crowd is terminal, the ends are closed classes: crowds that lead to each other alone. With "
+            "`--agents` it looks at all inputs of so many agents, and says which is the slowest and which is most "
+            "often wrong. A chain that is too large is refused, with one that fits. Needs python3-scipy."
+        ),
+        (
+            "pop exact examples/majority/majority.pop x=5 y=4 --after 20",
+            "pop exact examples/epidemic/epidemic.pop --agents 2..8",
+        ),
+        (
+            text("--agents", "the worst of all inputs of N agents, or of each number from N to M", "N..M"),
+            whole("--after", "the distribution after N meetings", None, 0, MEETING_LIMIT),
+            flag("--fractions", "computes in fractions, without rounding"),
+            number("--volume", "the volume of a reaction network, for its own time (the agents less one)", None),
+            whole("--top", "prints the N likeliest ends and crowds", 10, 1, TOP_LIMIT),
+            text("--predicate", "compares the output with its value"),
+            MEMBER,
+        ),
+        module="exact",
         words=WORDS_LIMIT,
     ),
     Command(
@@ -56,9 +118,17 @@ BEHAVIOUR = (
             whole("--seed", "the first run's seed", 0, 0, SEED_LIMIT - RUN_LIMIT),
             whole("--changes", "stops a run after N changes", 10**6, 1, CHANGES_ASKED),
             whole("--meetings", "stops a run after N meetings", 0, 0, MEETING_LIMIT),
+            GRAPH,
+            ROUNDS,
             text("--predicate", "compares the output with its value"),
             choice(
-                "--by", "whose runs; those of the program are replayed", "simulate", "simulate", "run", metavar="WHOM"
+                "--by",
+                "whose runs; those of the program are replayed",
+                "simulate",
+                "simulate",
+                "kernel",
+                "run",
+                metavar="WHOM",
             ),
             whole("--jobs", "N jobs in parallel", 1, 1, PLACE_LIMIT),
             file("--hosts", "machines that share the jobs, one on a line"),
@@ -67,6 +137,7 @@ BEHAVIOUR = (
             whole("--chunk", "how many jobs a command of `--list` has", 1, 1, CHUNK_LIMIT),
             file("--gather", "makes the table of what the jobs printed; a folder too"),
             file("--csv", "writes the table, for `pop plot`"),
+            MEMBERS,
         ),
         module="sweep",
         words=WORDS_LIMIT,
@@ -75,7 +146,11 @@ BEHAVIOUR = (
     Command(
         "plot",
         "the picture of a journal, a trace, many runs or a sweep's table",
-        ("pop plot [FILE [FILE]] -o PICTURE [OPTION VALUE]..", "pop plot [FILE] --text"),
+        (
+            "pop plot [FILE [FILE]] -o PICTURE [OPTION VALUE]..",
+            "pop plot [FILE] --text",
+            "pop plot --ode NET x=30 y=10 -o PICTURE",
+        ),
         (
             "Counts over parallel time, also of meetings as `play` takes them. A sweep gives the meetings over the"
             " number of agents, with the fitted growth. Many runs give the mean, with the band that holds eight of"
@@ -95,10 +170,14 @@ BEHAVIOUR = (
             text("--size", "width and height in inches, as in `7.2x4.2`", "SIZE"),
             choice("--by", "what is drawn of each agent", None, "state", "output"),
             choice("--of", "meetings to the end, or to what is agreed", "end", "end", "agreed"),
+            file("--ode", "the net whose mean field is drawn too, from the same start; alone where counts are given"),
+            text("--phase", "the agents in one state against those in another", "A,B"),
+            text("--over", "the axis of a sweep's table: a family's parameter in place of the agents", "NAME"),
             text("--title", "in place of the net, the crowd and the seed"),
+            MEMBER,
         ),
         module="plot",
-        words=2,
+        words=WORDS_LIMIT,
         writes=True,
     ),
     Command(
@@ -112,6 +191,7 @@ BEHAVIOUR = (
             flag("--dot", "prints the text for graphviz"),
             flag("--text", "prints tables"),
             text("--title", "in place of the net's name"),
+            MEMBER,
         ),
         module="draw",
         writes=True,

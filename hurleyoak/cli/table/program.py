@@ -2,6 +2,7 @@
 from __future__ import annotations
 
 from ...limits import SEED_LIMIT, SHARD_LIMIT, TURN_LIMIT, WATCHED_WORKERS, WORKER_LIMIT
+from .protocols import MEMBER
 from .shape import Command, Option, choice, flag, whole
 
 
@@ -17,7 +18,7 @@ def _numbers(workers: int) -> tuple[Option, ...]:
 PROGRAM = (
     Command(
         "check",
-        "certifies a bundle, for crowds of every size",
+        "certifies a bundle, for crowds of two agents or more",
         ("pop check FILE [--twice]", "pop check < BUNDLE"),
         (
             "Prints `certified K`, where K is the bound of steps for each agent, or `rejected` and the first "
@@ -26,18 +27,19 @@ PROGRAM = (
             "bundle in JSON, on one line or many, or a .pop file with a proof."
         ),
         ("pop check examples/majority/majority.pop --twice", "pop check < examples/flock/bundle.json"),
-        (flag("--twice", "asks bin/recheck too, and ends with 5 where the two differ"),),
+        (flag("--twice", "asks bin/recheck too, and ends with 5 where the two differ"), MEMBER),
     ),
     Command(
         "show",
         "what is certified, by names: predicate, states, moves, layers",
         ("pop show FILE", "pop show < BUNDLE"),
         (
-            "Checks a bundle as `check` does, whose proof has no goals. Below `certified K` it prints the predicate and the net that were "
+            "Checks a bundle whose proof has no goals, as `check` does. Below `certified K` it prints the predicate and the net that were "
             "certified, by names: variables, states, helpers, outputs, moves, and the layers of the proof. "
             "Whatever else `check` would print, `show` prints too."
         ),
         ("pop show examples/majority/majority.pop", "pop show < examples/and/bundle.json | grep move"),
+        (MEMBER,),
     ),
     Command(
         "run",
@@ -54,7 +56,7 @@ PROGRAM = (
             "pop run examples/majority/majority.pop x=30 y=10 --seed 3",
             "head -n 2 examples/replays/held.txt | pop run --turns 100",
         ),
-        _numbers(WORKER_LIMIT),
+        (*_numbers(WORKER_LIMIT), MEMBER),
     ),
     Command(
         "watch",
@@ -68,7 +70,7 @@ PROGRAM = (
             "pop watch examples/majority/majority.pop x=30 y=10 --workers 3",
             "head -n 2 examples/replays/held.txt | pop watch --workers 2",
         ),
-        _numbers(WATCHED_WORKERS),
+        (*_numbers(WATCHED_WORKERS), MEMBER),
     ),
     Command(
         "settle",
@@ -83,6 +85,7 @@ PROGRAM = (
             "pop settle examples/flock/flock.pop x=5 y=2",
             "cat examples/majority/bundle.json examples/majority/crowd.txt | pop settle",
         ),
+        (MEMBER,),
     ),
     Command(
         "play",
@@ -94,7 +97,7 @@ PROGRAM = (
             "FILE is a net or a bundle; no proof is needed."
         ),
         ("pop play examples/majority/net.json x=2 y=1 0,2 1,2 --steps", "pop play < examples/majority/play.txt"),
-        (flag("--steps", "prints each crowd too, with the move between"),),
+        (flag("--steps", "prints each crowd too, with the move between"), MEMBER),
     ),
     Command(
         "eval",
@@ -110,13 +113,13 @@ PROGRAM = (
         "compile",
         "a net that computes a predicate, with a valid proof",
         (
-            "pop compile 'x - y < 1000' [--succinct | --plain | --flocks] [--helpers none]",
+            "pop compile 'x < 9' [--succinct | --quick | --plain | --flocks] [OPTION]..",
             "pop compile [--flocks | --succinct] < VARS-AND-PREDICATE",
         ),
         (
             "Prints a bundle on one line: the program's own, or a succinct one where that has fewer states, which the"
-            " program certifies before it is printed. Standard error says which leaves it has, and what its helpers"
-            " mean for a crowd. The variables are in the order in which the predicate mentions them. A compile that"
+            " program certifies before it is printed. Standard error says which leaves it has, what its helpers mean"
+            " for a crowd, who made it, and how many random meetings settle n agents. The variables are in the order in which the predicate mentions them. A compile that"
             " fails leaves no file."
         ),
         (
@@ -127,16 +130,18 @@ PROGRAM = (
             flag(
                 "--succinct",
                 (
-                    "succinct leaves alone, with O(log s) states for constants of the size s: the program's, "
-                    "and where it refuses the workbench's"
+                    "the smallest of the program's succinct net, its plain one and the workbench's; what the program makes"
+                    " is right by a theorem"
                 ),
             ),
+            flag("--quick", "the workbench's net whatever its size: callers tell its answer, and tokens join"),
             flag("--plain", "the program's own leaves alone"),
             flag(
                 "--flocks",
                 'the program\'s leaf of k + 2 states for each comparison that says "at least 2^k", k from 1 to 39',
             ),
             choice("--helpers", "whether inputs may have helpers", "any", "none", "any", metavar="WHICH"),
+            flag("--text", "a `.pop` file, as `-o FILE.pop` writes it too"),
         ),
     ),
     Command(

@@ -24,6 +24,7 @@ class Given:
     command: Command
     words: list[str]
     values: dict[str, Any]
+    named: frozenset[str] = frozenset()  # the options that stand among the words
 
     @property
     def path(self) -> str:
@@ -143,8 +144,12 @@ def _split(command: Command, arguments: Sequence[str]) -> tuple[list[str], list[
             options.append(word)
             continue
         value = value if sign else next(rest, END)
+        if names[found[0]].is_pair and not sign:
+            value = " ".join([value, next(rest, END)])
+        elif value in names[found[0]].joins and not sign:
+            value = " ".join([value, next(rest, END)])
         # (argparse takes such a value for the end of all options)
-        if value == END:
+        if value == END or value.endswith(f" {END}"):
             raise UsageFault(f"`{name}` is followed by its value: {takes(command)}")
         options.append(f"{found[0]}={value}" if found[0].startswith("--") else found[0] + value)
     return words, options
@@ -160,4 +165,4 @@ def read_words(command: Command, arguments: Sequence[str]) -> Given:
     if not command.needs <= len(words) <= command.words:
         raise UsageFault(takes(command))
     values = {option.name: _value(option, getattr(space, option.name)) for option in command.options}
-    return Given(command, words, values)
+    return Given(command, words, values, frozenset(space.__dict__.get("seen", ())))

@@ -34,6 +34,8 @@ class Option:
     choices: tuple[str, ...] = ()
     short: str = ""
     repeats: bool = False
+    is_pair: bool = False  # its value is two words
+    joins: tuple[str, ...] = ()  # values that take the next word too
 
     @property
     def shown(self) -> str:

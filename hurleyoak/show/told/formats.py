@@ -100,7 +100,6 @@ RULES = [
         ),
     ),
 ]
-LAYERS_MISSING = re.compile(r"/proof/\d+/layers")
 KINDS: dict[type, str] = {
     dict: "an object",
     list: "a list",
@@ -133,12 +132,6 @@ def _filled(rule: str, value: Any, path: str) -> str:
         outputs=f", and there are {states}" if states else "",
         leaves=f" (here 0 to {len(leaves) - 1})" if isinstance(leaves, list) and leaves else "",
     )
-
-
-def _has_goals(value: Any, path: str) -> bool:
-    """Whether the leaf's proof to which a path leads has goals in the place of layers."""
-    _, part = value_at(value, path.rpartition("/")[0])
-    return isinstance(part, dict) and "goals" in part and "layers" not in part
 
 
 def _found(value: Any, path: str) -> str:
@@ -174,11 +167,6 @@ def format_told(asked: Asked, path: str, why: str) -> list[str]:
             return [
                 f"this is {what}; `{asked.words[0]}` takes a bundle: a net with its predicate and proof",
                 f"`pop find {asked.file or 'FILE'} PREDICATE` looks for a proof",
-            ]
-        if LAYERS_MISSING.fullmatch(path) and _has_goals(value, path):
-            return [
-                f"this proof has goals, and `{asked.words[0]}` takes proofs with layers alone",
-                "`check`, `run`, `watch`, `replay` and `settle` take it",
             ]
         if "net" in value and path == "/format":
             return [

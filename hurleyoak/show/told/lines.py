@@ -220,7 +220,7 @@ def size_told(asked: Asked, size: int) -> list[str]:
     """On `fault: size N`."""
     few = size < LEAST_AGENTS
     beside = "" if asked.lines and '"helpers"' not in asked.lines[0] else ", helpers included,"
-    end = "in a smaller one no agents meet" if few else "what `check` certifies holds for every size"
+    end = "in a smaller one no agents meet" if few else "what `check` certifies holds for greater ones too"
     return [
         f"the crowd has {size:,} {'agent' if size == 1 else 'agents'}{beside} and `{asked.words[0]}` takes 2 to "
         f"{MOST_AGENTS:,}; {end}"

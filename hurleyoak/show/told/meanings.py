@@ -64,14 +64,14 @@ MEANINGS = [
     (
         r"certified \d+",
         (
-            "The proof is valid: the net computes the predicate for crowds of every size. "
+            "The proof is valid: the net computes the predicate for crowds of two agents or more. "
             "This number of steps for each agent can lead it to its end."
         ),
     ),
     (
         r"stable \d+",
         (
-            "The proof is valid, and has goals: the net computes the predicate for crowds of every size. This number"
+            "The proof is valid, and has goals: the net computes the predicate for crowds of two agents or more. This number"
             " of steps for each agent can lead it to a crowd whose outputs are right and stay so. Agents may go on"
             " changing."
         ),

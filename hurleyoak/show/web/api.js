@@ -1,6 +1,10 @@
 // What the server is asked. The key stands in the address behind `#`, which no browser sends anywhere.
+import {Refused, stopped} from "./refused.js";
+
 const STORED = "pop-key";
-export const family = { member: 0 }; // of a family, which member is worked with
+export const family = {
+  member: 0
+};                            // of a family, which member is worked with
 export const isStill = false; // whether nobody can be asked, as in a page without a server
 
 function takeKey() {
@@ -14,22 +18,13 @@ function takeKey() {
 
 const key = takeKey();
 
-// What was refused, in sentences; `faults` are marks at places of the text.
-export class Refused extends Error {
-  constructor(told, faults = [], status = 0) {
-    super(told.join("\n"));
-    this.told = told;
-    this.faults = faults;
-    this.status = status;
-  }
-}
-
+/** @param {string} path @param {object} value @param {AbortSignal} [signal] */
 async function send(path, value, signal) {
   let answer;
   try {
     answer = await fetch(path, {
       method: "POST",
-      headers: { "Content-Type": "application/json", "X-Pop-Key": key },
+      headers: {"Content-Type": "application/json", "X-Pop-Key": key},
       body: JSON.stringify(value),
       signal,
       cache: "no-store",
@@ -37,10 +32,11 @@ async function send(path, value, signal) {
       redirect: "error",
     });
   } catch (error) {
-    if (error.name === "AbortError") throw error;
+    if (stopped(error)) throw error;
     throw new Refused(["the server does not answer: it was ended; `bin/pop serve` starts it again"]);
   }
   if (!answer.ok) {
+    /** @type {string[]} */
     let told;
     try {
       told = (await answer.json()).told;
@@ -52,18 +48,27 @@ async function send(path, value, signal) {
   return answer;
 }
 
-export async function post(path, value = {}, signal = undefined) {
-  return (await send(path, value, signal)).json();
+/** @template {keyof Posts} P @param {P} path @param {object} value @returns {Promise<Posts[P]>} */
+export async function post(path, value = {}) {
+  return (await send(path, value)).json();
 }
 
 // Does a job; `on` is told each message, and the last one comes back. Refused where the job says why not.
-export async function job(kind, request, { on = () => {}, signal } = {}) {
-  const answer = await send("/job", { kind, member: family.member, ...request }, signal);
+/**
+ * @template {keyof Jobs} K
+ * @param {K} kind
+ * @param {object} request
+ * @param {{on?: (message: Messages[K]) => void, signal?: AbortSignal}} more
+ * @returns {Promise<Jobs[K]>}
+ */
+export async function job(kind, request, {on = () => {}, signal} = {}) {
+  const answer = await send("/job", {kind, member: family.member, ...request}, signal);
+  if (!answer.body) throw new Refused(["the server ended the job without an answer"]);
   const reader = answer.body.pipeThrough(new TextDecoderStream()).getReader();
+  /** @type {string[]} */
   let parts = [];
-  let last = null;
   for (;;) {
-    const { value, done } = await reader.read();
+    const {value, done} = await reader.read();
     if (done) break;
     // (a message of many pieces is joined once)
     const cut = value.split("\n\n");
@@ -72,7 +77,8 @@ export async function job(kind, request, { on = () => {}, signal } = {}) {
       const line = parts.join("");
       parts = [more];
       if (!line.startsWith("data: ")) continue;
-      last = JSON.parse(line.slice(6));
+      /** @type {{event: string, told: string[], faults?: Mark[]} & Jobs[K] & Messages[K]} */
+      const last = JSON.parse(line.slice(6));
       if (last.event === "fault") throw new Refused(last.told, last.faults || []);
       if (last.event === "done") return last;
       on(last);
@@ -82,12 +88,15 @@ export async function job(kind, request, { on = () => {}, signal } = {}) {
 }
 
 // Whoever leaves the page ends its jobs, also where the browser keeps the page to come back to.
+/** @type {Set<AbortController>} */
 const going = new Set();
 addEventListener("pagehide", () => going.forEach((control) => control.abort()));
 
 // One job of a kind at a time: a new one ends the one before.
 export class Slot {
+  /** @param {(busy: boolean) => void} changed */
   constructor(changed = () => {}) {
+    /** @type {AbortController | null} */
     this.control = null;
     this.changed = changed;
   }
@@ -97,6 +106,13 @@ export class Slot {
   stop() {
     if (this.control) this.control.abort();
   }
+  /**
+   * @template {keyof Jobs} K
+   * @param {K} kind
+   * @param {object} request
+   * @param {(message: Messages[K]) => void} [on]
+   * @returns {Promise<Jobs[K]>}
+   */
   async run(kind, request, on) {
     this.stop();
     const control = new AbortController();
@@ -104,7 +120,10 @@ export class Slot {
     going.add(control);
     this.changed(true);
     try {
-      return await job(kind, request, { on: (message) => this.control === control && on && on(message), signal: control.signal });
+      const own = (/** @type {Messages[K]} */ message) => {
+        if (this.control === control) on?.(message);
+      };
+      return await job(kind, request, {on: own, signal: control.signal});
     } finally {
       going.delete(control);
       if (this.control === control) {
@@ -115,13 +134,10 @@ export class Slot {
   }
 }
 
-export function stopped(error) {
-  return error.name === "AbortError";
-}
-
+/** @param {string} name @param {string} text */
 export function download(name, text, type = "text/plain") {
   const link = document.createElement("a");
-  link.href = URL.createObjectURL(new Blob([text], { type: `${type};charset=utf-8` }));
+  link.href = URL.createObjectURL(new Blob([text], {type: `${type};charset=utf-8`}));
   link.download = name;
   link.click();
   setTimeout(() => URL.revokeObjectURL(link.href), 10_000);

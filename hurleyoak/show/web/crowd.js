@@ -1,24 +1,33 @@
 // A crowd that meets: what each agent is, the meetings so far, forth and back. Nothing is drawn here.
-import { Model, generator } from "./model.js";
+import {generator, Model, NO_NET} from "./model.js";
 
 export const MOST = 300; // agents drawn
 export const MOST_MEETINGS = 200_000;
 
 export class Crowd {
+  /** @param {Net} net */
   constructor(net) {
     this.model = new Model(net);
+    /** @type {Kind[]} */
     this.agents = [];
+    /** @type {Counts} */
     this.counts = {}; // of the input
-    this.history = []; // [a, b, kinds before, moves, kinds after, whether the program's `play` does the same]; null for three of them where nothing changes
+    /** @type {Meeting[]} */
+    this.history = [];
     this.at = 0; // meetings made, of those of the history
+    /** @type {Tally} */
     this.tally = new Map();
-    this.known = undefined; // whether it is terminal, where that was asked since it changed
+    // whether it is terminal, where that was asked since it changed
+    /** @type {boolean | undefined} */
+    this.known = undefined;
+    this.tooMany = this.tooFew = false;
     this.random = generator(1);
   }
 
   // The input's crowd; empty where it has more agents than are drawn.
+  /** @param {Counts} counts */
   start(counts, seed = 1) {
-    this.counts = { ...counts };
+    this.counts = {...counts};
     this.history = [];
     this.at = 0;
     this.random = generator(seed);
@@ -29,7 +38,9 @@ export class Crowd {
     this.recount();
   }
 
-  // A list of meetings from the start, to be gone through: two agents each, or also a leaf and a move, which is then taken there alone.
+  // A list of meetings from the start, to be gone through: two agents each, or also a leaf and a move, which is then
+  // taken there alone.
+  /** @param {number[][]} meetings */
   load(meetings) {
     const kinds = [...this.agents];
     this.at = 0;
@@ -47,18 +58,21 @@ export class Crowd {
     for (const kind of this.agents) this.tally.set(kind, (this.tally.get(kind) || 0) + 1);
   }
 
+  /** @param {number} i @param {Kind} kind */
   become(i, kind) {
     const before = this.agents[i];
     if (before === kind) return;
     this.known = undefined;
-    const left = this.tally.get(before) - 1;
+    const left = (this.tally.get(before) || 0) - 1;
     if (left) this.tally.set(before, left);
     else this.tally.delete(before);
     this.tally.set(kind, (this.tally.get(kind) || 0) + 1);
     this.agents[i] = kind;
   }
 
-  // Two agents meet, the first as the initiator; whether that changes something. It is sure to where only such meetings are made.
+  // Two agents meet, the first as the initiator; whether that changes something. It is sure to where only such
+  // meetings are made.
+  /** @param {number} a @param {number} b */
   meet(a, b, isSure = false) {
     this.history.length = this.at;
     const way = this.drawn(a, b, isSure);
@@ -68,11 +82,12 @@ export class Crowd {
   }
 
   // What comes of a meeting, by chance where it may come out in several ways; null where nothing changes.
+  /** @param {number} a @param {number} b @param {boolean} isSure */
   drawn(a, b, isSure) {
     const ways = this.model.options(this.agents[a], this.agents[b]);
     if (!ways.length || ways[0].chance === 1) return ways[0] || null;
     let left = this.random() * (isSure ? this.model.share(this.agents[a], this.agents[b]) : 1);
-    return ways.find((way) => (left -= way.chance) < 0) || (isSure ? ways.at(-1) : null);
+    return ways.find((way) => (left -= way.chance) < 0) || (isSure && ways.at(-1)) || null;
   }
 
   // Whether the meetings so far are those of the program's `play`, which takes the first move of each two states.
@@ -80,16 +95,29 @@ export class Crowd {
     return this.history.slice(0, this.at).every((item) => item[5]);
   }
 
+  /**
+   * @param {number} a
+   * @param {number} b
+   * @param {Kind} one
+   * @param {Kind} two
+   * @param {Become | null} way
+   * @param {boolean} isPlain
+   * @returns {Meeting}
+   */
   made(a, b, one, two, way, isPlain) {
     return way ? [a, b, [one, two], way.moves, [way.first, way.second], isPlain] : [a, b, null, null, null, isPlain];
   }
 
   // A meeting of a list, as the program makes it: by a move of a leaf that is taken there alone, or by the first moves.
+  /** @param {number} a @param {number} b @param {Kind} one @param {Kind} two @param {number[]} take */
   item(a, b, one, two, take) {
-    return this.made(a, b, one, two, take.length ? this.model.taken(one, two, ...take) : this.model.after(one, two), true);
+    const [leaf, move] = take;
+    const way = take.length ? this.model.taken(one, two, leaf, move) : this.model.after(one, two);
+    return this.made(a, b, one, two, way, true);
   }
 
   // The next meeting of the history: its two agents, and whether it changes something.
+  /** @returns {Met} */
   advance() {
     const [a, b, , , after] = this.history[this.at++];
     if (after) {
@@ -100,6 +128,7 @@ export class Crowd {
   }
 
   // To after so many meetings of the history.
+  /** @param {number} to */
   go(to) {
     const end = Math.max(0, Math.min(this.history.length, to));
     while (this.at > end) {
@@ -120,6 +149,7 @@ export class Crowd {
   }
 
   // Any two agents; null where no meeting changes anything.
+  /** @returns {[number, number] | null} */
   any() {
     const n = this.agents.length;
     if (this.isTerminal()) return null;
@@ -129,9 +159,12 @@ export class Crowd {
   }
 
   // An initiator and a responder whose meeting may change something, as likely as it does.
+  /** @returns {[number, number] | null} */
   changing() {
+    /** @type {[one: Kind, two: Kind, upTo: number][]} */
     const pairs = [];
     let sum = 0;
+    /** @type {(one: Kind, two: Kind, many: number) => void} */
     const add = (one, two, many) => {
       const weight = many && many * this.model.share(one, two);
       if (weight) pairs.push([one, two, (sum += weight)]);
@@ -140,13 +173,15 @@ export class Crowd {
     here.forEach(([one, m]) => here.forEach(([two, k]) => add(one, two, one === two ? m * (m - 1) : m * k)));
     if (!sum) return null;
     const drawn = this.random() * sum;
-    const [one, two] = pairs.find(([, , upTo]) => drawn < upTo);
+    const [one, two] = pairs.find(([, , upTo]) => drawn < upTo) ?? pairs[pairs.length - 1];
     const a = this.someone(one, -1);
     return [a, this.someone(two, a)];
   }
 
   // An agent of a kind, other than one.
+  /** @param {Kind} kind @param {number} other */
   someone(kind, other) {
+    /** @type {number[]} */
     const all = [];
     this.agents.forEach((own, i) => own === kind && i !== other && all.push(i));
     return all[Math.floor(this.random() * all.length)];
@@ -173,6 +208,12 @@ export class Crowd {
   }
 }
 
+/** @param {Kind} a @param {Kind} b */
 export function inOrder(a, b) {
   return Number(b.output) - Number(a.output) || a.rank - b.rank;
+}
+
+// The crowd of no net, before there is one.
+export function nobody() {
+  return new Crowd(NO_NET);
 }

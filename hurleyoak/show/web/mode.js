@@ -1,10 +1,31 @@
 // The words of a `.pop` file, token by token: for the editor's colours, and for a listing without an editor.
-const HEADS = /^(?:format|family|for|variables|predicate|combine|leaf|states|inputs|helpers|yes|no|computes|layers|layer|when|keeps)(?![A-Za-z0-9_.:])/;
+const HEAD_WORDS = [
+  "format",
+  "family",
+  "for",
+  "variables",
+  "predicate",
+  "assume",
+  "combine",
+  "leaf",
+  "states",
+  "inputs",
+  "helpers",
+  "yes",
+  "no",
+  "computes",
+  "layers",
+  "layer",
+  "when",
+  "keeps",
+];
+const HEADS = new RegExp(`^(?:${HEAD_WORDS.join("|")})(?![A-Za-z0-9_.:])`);
 const NODES = /^(?:open|present|twin|trap|siphon|first|split|lin|residue|missing|rest)(?![A-Za-z0-9_.])/;
 const NAME = /^[A-Za-z0-9_'.^~@$%](?:[A-Za-z0-9_'.^~@$%]|-(?!>))*/;
 
+/** @returns {Mode} */
 export const popMode = () => ({
-  startState: () => ({ head: "", fresh: true }),
+  startState: () => ({head: "", fresh: true}),
   token(stream, state) {
     if (stream.sol()) state.fresh = true;
     if (stream.eatSpace()) return null;
@@ -26,7 +47,7 @@ export const popMode = () => ({
     if (state.head === "when" && stream.match(/^(?:true|false)\b/)) return "atom";
     if (stream.match("->")) return "operator";
     if (stream.match(/^"(?:[^"\\]|\\.)*"?/)) return "string";
-    if (state.head === "computes" || state.head === "predicate") {
+    if (["computes", "predicate", "assume"].includes(state.head)) {
       if (stream.match(/^(?:mod)\b/)) return "keyword";
       if (stream.match(/^[0-9]+/)) return "number";
       if (stream.match(/^[A-Za-z_][A-Za-z0-9_]*/)) return "variable-2";

@@ -1,12 +1,14 @@
 // What the names in a text mean: for "what is this name" by the pointer, and for the words that may come next.
-import { store } from "./store.js";
+import {store} from "./store.js";
 
+/** @type {Record<string, string>} */
 const KEYWORDS = {
   family: "a parameter of the text, as in `family k in 2..4`: one protocol for each of its values",
   for: "the lines below, set in, stand once for each value, as in `for i in 1..k-1`",
   format: "the format of the net's file, 1 or 2",
   variables: "the input variables in their order",
   predicate: "what the whole net computes",
+  assume: "inputs for which this predicate is false are left out of what is tried; a proof speaks of all inputs",
   combine: "how the leaves' answers become one, as in `a && !b`",
   leaf: "the lines below are those of the leaf with this name",
   states: "all states of the leaf in their order",
@@ -29,6 +31,7 @@ const KEYWORDS = {
   lin: "closes the branch: this sum of facts would be below 0, and it is at least 0",
   residue: "closes the branch: this sum cannot be divided so",
 };
+/** @type {Record<string, string>} */
 const FACTS = {
   wrong: "an agent has the wrong output",
   value: "what the predicate's value means for the input",
@@ -42,31 +45,55 @@ const FACTS = {
 };
 const WORD = /[A-Za-z0-9_'.^~@$%]+/g;
 
+// What a text assumes of its inputs, as a sentence behind others.
+/** @param {Net} net */
+export function assumedText({assumed}) {
+  return assumed.length ? ` The text leaves out the inputs for which ${assumed.join(" or ")} is false.` : "";
+}
+
+// How great the leaves of a net are.
+/** @param {Made["leaves"]} leaves */
+export function sizesTold(leaves) {
+  const sizes = leaves.map(([states, moves]) => `${states} states and ${moves} moves`).join("; ");
+  return `${leaves.length} lea${leaves.length === 1 ? "f" : "ves"}, ${sizes}`;
+}
+
 // The word at a column, with where it begins and ends.
+/** @param {string} line @param {number} column */
 export function wordAt(line, column) {
   for (const found of line.matchAll(WORD)) {
-    const [from, to] = [found.index, found.index + found[0].length];
-    if (from <= column && column <= to) return { word: found[0], from, to };
+    const from = found.index ?? 0;
+    const to = from + found[0].length;
+    if (from <= column && column <= to) return {word: found[0], from, to};
   }
   return null;
 }
 
+/** @param {string} word @param {Tally | null} tally */
 function state(word, tally) {
+  const {net} = store;
+  if (!net) return [];
+  /** @type {string[]} */
   const out = [];
-  (store.net?.leaves || []).forEach((leaf, i) => {
+  net.leaves.forEach((leaf, i) => {
     const q = leaf.states.indexOf(word);
     if (q < 0) return;
-    const starts = store.net.names.filter((_, v) => leaf.inputs[v] === q);
+    const starts = net.names.filter((_, v) => leaf.inputs[v] === q);
     const moves = leaf.moves.filter(([p, r]) => p === q || r === q).length;
     const now = [...(tally || [])].reduce((sum, [kind, k]) => sum + (kind.word[i] === q ? k : 0), 0);
-    out.push(`state ${word}${store.net.leaves.length > 1 ? ` of ${leaf.label}` : ""}: says ${leaf.outputs[q]}${starts.length ? `; ${starts.join(", ")} starts here` : ""}; it meets in ${moves} move${moves === 1 ? "" : "s"}; ${now} of Play's crowd are in it`);
+    const whose = net.leaves.length > 1 ? ` of ${leaf.label}` : "";
+    const inputs = starts.length ? `; ${starts.join(", ")} starts here` : "";
+    const meets = `it meets in ${moves} move${moves === 1 ? "" : "s"}`;
+    out.push(`state ${word}${whose}: says ${leaf.outputs[q]}${inputs}; ${meets}; ${now} of Play's crowd are in it`);
   });
   return out;
 }
 
 // What a word of a line means; empty where it means nothing that is known.
+/** @param {string} word @param {string} line @param {Tally | null} [tally] */
 export function meaningOf(word, line, tally = null) {
-  const isHead = new RegExp(`^[\\s│├└─]*(?:[a-z]+(?: \\[[^\\]]*\\])?: )?${word.replace(/[^A-Za-z0-9_]/g, "\\$&")}(?![A-Za-z0-9_])`).test(line);
+  const own = word.replace(/[^A-Za-z0-9_]/g, "\\$&");
+  const isHead = new RegExp(`^[\\s│├└─]*(?:[a-z]+(?: \\[[^\\]]*\\])?: )?${own}(?![A-Za-z0-9_])`).test(line);
   if (isHead && Object.hasOwn(KEYWORDS, word)) return `${word}: ${KEYWORDS[word]}`;
   const found = state(word, tally);
   if (found.length) return found.join("\n");
@@ -76,13 +103,16 @@ export function meaningOf(word, line, tally = null) {
 }
 
 // The words that may stand at a place of a line, keywords first where the line begins.
+/** @param {string} line @param {number} column */
 export function wordsFor(line, column) {
   const before = line.slice(0, column);
-  const typed = /[A-Za-z0-9_'.^~@$%]*$/.exec(before)[0];
+  const typed = /[A-Za-z0-9_'.^~@$%]*$/.exec(before)?.[0] ?? "";
   const states = (store.net?.leaves || []).flatMap((leaf) => leaf.states);
   const names = store.net?.names || [];
   const heads = /^\s*(?:[a-z]+:\s*)?[A-Za-z]*$/.test(before) ? Object.keys(KEYWORDS) : [];
-  const facts = /\b(?:lin|residue|split)\b/.test(before) ? ["wrong", "value", ...["absent", "here", "flow"].flatMap((name) => states.map((q) => `${name}(${q})`))] : [];
-  const words = [...new Set([...heads, ...facts, ...(/^\s*(?:computes|predicate)\b/.test(before) ? [] : states), ...names])];
-  return { typed, words: words.filter((word) => word.startsWith(typed) && word !== typed) };
+  const ofStates = ["absent", "here", "flow"].flatMap((name) => states.map((q) => `${name}(${q})`));
+  const facts = /\b(?:lin|residue|split)\b/.test(before) ? ["wrong", "value", ...ofStates] : [];
+  const isPredicate = /^\s*(?:computes|predicate|assume)\b/.test(before);
+  const words = [...new Set([...heads, ...facts, ...(isPredicate ? [] : states), ...names])];
+  return {typed, words: words.filter((word) => word.startsWith(typed) && word !== typed)};
 }

@@ -1,46 +1,81 @@
 // The picture of a crowd: a dot for each agent, the two that meet, where the focus is.
-import { generator } from "./model.js";
-import { s } from "./svg.js";
+import {nobody} from "./crowd.js";
+import {generator} from "./model.js";
+import {s} from "./svg.js";
 
-const LABELS = 130; // agents, up to which their states are written in them
+const LABELS = 130;    // agents, up to which their states are written in them
 const LEAST_LABEL = 8; // pixels of a dot's radius below which nothing is written in it
-const LINES = 12; // meetings shown at once while many are made
-const ROUND = 1; // what a circle's side is of a dot's size
-const SQUARE = 0.88; // what a square's is, so that both look as large
+const LINES = 12;      // meetings shown at once while many are made
+const ROUND = 1;       // what a circle's side is of a dot's size
+const SQUARE = 0.88;   // what a square's is, so that both look as large
 const CORNER = 0.3;
 const NARROW = 460; // pixels of a stage whose hint takes two lines
 
+/** @typedef {Record<"x" | "y" | "width" | "height" | "rx", string>} Look */
+/** @typedef {{shape: SVGRectElement, label: SVGTextElement | null, output: boolean | undefined}} Dot */
+
+/**
+ * A shape of a dot's radius, of which its sides and corners are shares.
+ * @param {number} radius
+ * @param {number} share
+ * @param {number} corner
+ * @returns {Look}
+ */
+function boxOf(radius, share, corner) {
+  const at = (-share * radius).toFixed(1);
+  const side = (2 * share * radius).toFixed(1);
+  return {x: at, y: at, width: side, height: side, rx: (corner * radius).toFixed(1)};
+}
+
 export class Picture {
   // `stage` is the element that it fills; `chosen(i)` is called for an agent that is pressed.
+  /** @param {HTMLElement} stage @param {(i: number) => void} chosen */
   constructor(stage, chosen) {
     this.stage = stage;
-    this.crowd = null;
+    this.crowd = nobody();
+    /** @type {SVGGElement[]} */
     this.dots = [];
-    this.painted = []; // the state that each dot shows
-    this.parts = []; // shape and label of each dot
-    this.unnamed = new Set(); // agents whose names are those of earlier states
+    // the state that each dot shows
+    /** @type {Kind[]} */
+    this.painted = [];
+    // shape and label of each dot
+    /** @type {Dot[]} */
+    this.parts = [];
+    // agents whose names are those of earlier states
+    /** @type {Set<number>} */
+    this.unnamed = new Set();
+    /** @type {Place[] | null} */
     this.places = null;
-    this.looks = null; // attributes of a circle and of a square, once there is room
+    // attributes of a circle and of a square, once there is room
+    /** @type {[square: Look, circle: Look] | null} */
+    this.looks = null;
+    /** @type {number[]} */
+    this.order = [];
+    this.radius = 0;
     this.chosen = -1;
     this.focus = 0;
-    this.ended = undefined; // what all have to say at the end, once that is known
-    this.field = s("svg", { class: "field", role: "group", "aria-label": "Agents. Arrow keys go from one to another, Enter chooses two that meet.", tabindex: "-1" });
-    this.lines = s("g", { class: "meetings" });
-    this.traces = ["met", "idle"].map((word) => s("path", { class: word }));
-    this.group = s("g", { class: "agents" });
-    this.field.append(this.lines, s("g", { class: "traces" }, this.traces), this.group);
+    // what all have to say at the end, once that is known
+    /** @type {boolean | null} */
+    this.ended = null;
+    const label = "Agents. Arrow keys go from one to another, Enter chooses two that meet.";
+    this.field = s("svg", {class: "field", role: "group", "aria-label": label, tabindex: "-1"});
+    this.lines = s("g", {class: "meetings"});
+    this.traces = ["met", "idle"].map((word) => s("path", {class: word}));
+    this.group = s("g", {class: "agents"});
+    this.field.append(this.lines, s("g", {class: "traces"}, this.traces), this.group);
     this.field.addEventListener("click", (event) => {
-      const dot = event.target.closest(".agent");
-      if (dot) chosen(Number(dot.dataset.i));
+      const at = this.dots.findIndex((dot) => event.target instanceof Node && dot.contains(event.target));
+      if (at >= 0) chosen(at);
     });
     new ResizeObserver(() => this.place()).observe(stage);
   }
 
   // Another crowd, or the same from its start.
+  /** @param {Crowd} crowd */
   draw(crowd) {
     this.crowd = crowd;
     this.chosen = -1;
-    this.ended = undefined;
+    this.ended = null;
     const order = crowd.agents.map((_, i) => i);
     const mixed = generator(7);
     for (let i = order.length - 1; i > 0; i--) {
@@ -48,7 +83,8 @@ export class Picture {
       [order[i], order[j]] = [order[j], order[i]];
     }
     this.order = order;
-    this.dots = crowd.agents.map((_, i) => s("g", { class: "agent", role: "button", tabindex: i === 0 ? 0 : -1, data: { i } }));
+    const look = {class: "agent", role: "button"};
+    this.dots = crowd.agents.map((_, i) => s("g", {...look, tabindex: i === 0 ? 0 : -1, data: {i}}));
     this.group.replaceChildren(...this.dots);
     this.places = this.looks = null;
     this.painted = [];
@@ -60,7 +96,7 @@ export class Picture {
 
   // Places as on a honeycomb, each a little off, with room for the hint below.
   place() {
-    const { width, height } = this.stage.getBoundingClientRect();
+    const {width, height} = this.stage.getBoundingClientRect();
     const n = this.dots.length;
     if (!width || !height || !n) return;
     this.field.setAttribute("viewBox", `0 0 ${width} ${height}`);
@@ -74,38 +110,39 @@ export class Picture {
     const slack = Math.max(0, Math.min(across, down) / 2 - radius) * 0.75;
     const off = generator(11);
     this.radius = radius;
-    this.places = [];
+    /** @type {Place[]} */
+    const places = [];
     this.order.forEach((i, k) => {
       const row = Math.floor(k / columns);
       const inRow = row === rows - 1 ? n - columns * (rows - 1) : columns;
       const indent = rows > 1 ? (row % 2 ? 0.5 : 0) : 0;
       const left = 6 + indent * across + (row === rows - 1 ? ((columns - inRow) * across) / 2 : 0);
-      const at = [left + (k - row * columns + 0.5) * across + (off() - 0.5) * 2 * slack, 6 + (row + 0.5) * down + (off() - 0.5) * 2 * slack];
-      this.places[i] = at;
-      this.dots[i].setAttribute("transform", `translate(${at[0].toFixed(1)} ${at[1].toFixed(1)})`);
+      const x = left + (k - row * columns + 0.5) * across + (off() - 0.5) * 2 * slack;
+      const y = 6 + (row + 0.5) * down + (off() - 0.5) * 2 * slack;
+      places[i] = [x, y];
+      this.dots[i].setAttribute("transform", `translate(${x.toFixed(1)} ${y.toFixed(1)})`);
     });
+    this.places = places;
     this.look(radius);
     this.paintAll();
   }
 
   // What a dot is made of, at a size.
+  /** @param {number} r */
   look(r) {
-    const text = (value) => value.toFixed(1);
-    const box = (share, corner) => ({ x: text(-share * r), y: text(-share * r), width: text(2 * share * r), height: text(2 * share * r), rx: text(corner * r) });
-    this.looks = { true: box(ROUND, ROUND), false: box(SQUARE, CORNER) };
+    this.looks = [boxOf(r, SQUARE, CORNER), boxOf(r, ROUND, ROUND)];
     this.painted = [];
     const hasLabels = this.dots.length <= LABELS && r >= LEAST_LABEL;
     this.parts = this.dots.map((dot) => {
       const shape = s("rect");
-      const label = hasLabels ? s("text", { dy: "0.35em" }) : null;
-      dot.replaceChildren(s("circle", { class: "halo", r: text(r + 4) }), shape, ...(label ? [label] : []));
-      return { shape, label, output: undefined };
+      const label = hasLabels ? s("text", {dy: "0.35em"}) : null;
+      dot.replaceChildren(s("circle", {class: "halo", r: (r + 4).toFixed(1)}), shape, ...(label ? [label] : []));
+      return {shape, label, output: undefined};
     });
   }
 
   // All dots, and their names.
   paintAll() {
-    if (!this.crowd) return;
     this.crowd.agents.forEach((_, i) => {
       this.mark(i);
       this.paint(i);
@@ -114,15 +151,17 @@ export class Picture {
   }
 
   // Who is chosen, whom a meeting with that one would not change, and who says the wrong thing at the end.
+  /** @param {number} i */
   mark(i) {
-    const { agents, model } = this.crowd;
-    const { classList } = this.dots[i];
+    const {agents, model} = this.crowd;
+    const {classList} = this.dots[i];
     classList.toggle("chosen", i === this.chosen);
     classList.toggle("dim", this.chosen >= 0 && i !== this.chosen && !model.after(agents[this.chosen], agents[i]));
-    classList.toggle("wrong", this.ended !== undefined && this.ended !== null && agents[i].output !== this.ended);
+    classList.toggle("wrong", this.ended !== null && agents[i].output !== this.ended);
   }
 
   // An agent in its state: what stays as it was is left alone.
+  /** @param {number} i */
   paint(i) {
     const kind = this.crowd.agents[i];
     if (this.painted[i] === kind) return;
@@ -130,17 +169,20 @@ export class Picture {
     if (!this.looks) return;
     this.painted[i] = kind;
     const part = this.parts[i];
-    const { fill, ink } = this.crowd.model.colour(kind);
+    const {fill, ink} = this.crowd.model.colour(kind);
     part.shape.setAttribute("fill", fill);
     if (part.output !== kind.output) {
       part.output = kind.output;
-      for (const [name, value] of Object.entries(this.looks[kind.output])) part.shape.setAttribute(name, value);
+      const look = this.looks[kind.output ? 1 : 0];
+      for (const [name, value] of Object.entries(look)) part.shape.setAttribute(name, value);
     }
     if (part.label) this.write(part.label, kind, ink);
   }
 
-  write(label, { name }, ink) {
-    label.style.setProperty("font-size", `${Math.min(this.radius * 0.95, (this.radius * 2.6) / Math.max(1, name.length)).toFixed(1)}px`);
+  /** @param {SVGTextElement} label @param {Kind} kind @param {string} ink */
+  write(label, {name}, ink) {
+    const size = Math.min(this.radius * 0.95, (this.radius * 2.6) / Math.max(1, name.length));
+    label.style.setProperty("font-size", `${size.toFixed(1)}px`);
     label.setAttribute("fill", ink);
     label.textContent = name;
   }
@@ -148,13 +190,14 @@ export class Picture {
   // What a screen reader says of the agents: only at rest, as nobody can follow it while many meet.
   name() {
     for (const i of this.unnamed) {
-      const { name, output } = this.crowd.agents[i];
+      const {name, output} = this.crowd.agents[i];
       this.dots[i].setAttribute("aria-label", `agent ${i} in ${name}, which says ${output}`);
     }
     this.unnamed.clear();
   }
 
   // Shows two agents that met.
+  /** @param {number} a @param {number} b @param {boolean} changed */
   flash(a, b, changed, quick = false) {
     for (const i of [a, b]) {
       const dot = this.dots[i];
@@ -166,11 +209,12 @@ export class Picture {
     this.untrace();
     const [x1, y1] = this.places[a];
     const [x2, y2] = this.places[b];
-    this.lines.append(s("line", { x1, y1, x2, y2, class: changed ? "met" : "idle" }));
-    while (this.lines.childElementCount > (quick ? LINES : 1)) this.lines.firstChild.remove();
+    this.lines.append(s("line", {x1, y1, x2, y2, class: changed ? "met" : "idle"}));
+    while (this.lines.childElementCount > (quick ? LINES : 1)) this.lines.firstChild?.remove();
   }
 
   // Shows the last of many meetings at once: two lines of the drawing, with nothing that moves by itself.
+  /** @param {Met[]} met */
   trace(met) {
     if (!this.places) return;
     if (this.lines.firstChild) this.lines.replaceChildren();
@@ -194,12 +238,13 @@ export class Picture {
   // No meeting is shown, and nobody is chosen.
   calm() {
     this.chosen = -1;
-    this.ended = undefined;
+    this.ended = null;
     this.wipe();
     this.dots.forEach((dot) => dot.classList.remove("met", "idle"));
     this.paintAll();
   }
 
+  /** @param {number} i */
   setFocus(i) {
     this.dots[this.focus]?.setAttribute("tabindex", "-1");
     this.focus = i;
@@ -207,7 +252,9 @@ export class Picture {
   }
 
   // The focus goes to the nearest agent in a direction.
+  /** @param {number} dx @param {number} dy */
   near(dx, dy) {
+    if (!this.places) return;
     const [x, y] = this.places[this.focus];
     let best = -1;
     let least = Infinity;

@@ -1,5 +1,6 @@
 // What all views share: the text, the net that was read from it, and what is known of it.
-import { job, stopped } from "./api.js";
+import {job} from "./api.js";
+import {messageOf, stopped} from "./refused.js";
 
 const PAUSE = 220; // milliseconds without a keystroke before the text is read
 
@@ -8,29 +9,45 @@ class Store extends EventTarget {
     super();
     this.text = "";
     this.version = 0; // of the text
-    this.net = null; // of the last text that could be read
+    // of the last text that could be read
+    /** @type {Net | null} */
+    this.net = null;
     this.netVersion = -1;
+    /** @type {Mark[]} */
     this.faults = [];
-    this.extra = []; // marks by a check: refused nodes, open parts
+    // marks by a check: refused nodes, open parts
+    /** @type {Mark[]} */
+    this.extra = [];
+    /** @type {ProofState} */
     this.proof = "none";
     this.isJson = false;
-    this.members = []; // of a family, their values
-    this.known = null; // {kind, line, version}: what the program said, and of which text
-    this.layers = null; // {net, leaves}: of the last proof that was shown, which moves each layer has
+    // of a family, their values
+    /** @type {string[]} */
+    this.members = [];
+    // what the program said, and of which text
+    /** @type {Known | null} */
+    this.known = null;
+    // of the last proof that was shown, which moves each layer has
+    /** @type {KnownLayers | null} */
+    this.layers = null;
     this.name = "protocol.pop";
     this.timer = 0;
+    /** @type {AbortController | null} */
     this.control = null;
   }
 
+  /** @template {keyof Told} N @param {N} name @param {Told[N]} [detail] */
   tell(name, detail) {
-    this.dispatchEvent(new CustomEvent(name, { detail }));
+    this.dispatchEvent(new CustomEvent(name, {detail}));
   }
 
+  /** @template {keyof Told} N @param {N} name @param {(detail: Told[N]) => void} call */
   on(name, call) {
-    this.addEventListener(name, (event) => call(event.detail));
+    this.addEventListener(name, (event) => call(/** @type {CustomEvent<Told[N]>} */ (event).detail));
   }
 
   // The text was changed, in the editor or from elsewhere.
+  /** @param {string} text */
   setText(text, at = PAUSE) {
     if (text === this.text && this.version) return;
     this.text = text;
@@ -42,9 +59,12 @@ class Store extends EventTarget {
   }
 
   // A text whose net is known already.
+  /** @param {string} name @param {string} text @param {Net} net @param {ProofState} proof */
   given(name, text, net, proof) {
-    Object.assign(this, { name, text, net, proof, version: 1, netVersion: 1 });
-    for (const word of ["text", "net", "read"]) this.tell(word);
+    Object.assign(this, {name, text, net, proof, version: 1, netVersion: 1});
+    this.tell("text");
+    this.tell("net");
+    this.tell("read");
   }
 
   async read() {
@@ -58,7 +78,7 @@ class Store extends EventTarget {
       return;
     }
     try {
-      const found = await job("read", { text: this.text }, { signal: control.signal });
+      const found = await job("read", {text: this.text}, {signal: control.signal});
       if (version !== this.version) return;
       this.faults = found.faults;
       if (found.net) {
@@ -73,7 +93,7 @@ class Store extends EventTarget {
       this.tell("read");
     } catch (error) {
       if (stopped(error)) return;
-      this.faults = [{ kind: "fault", told: error.message, line: 0, column: 0 }];
+      this.faults = [{kind: "fault", told: messageOf(error), line: 0, column: 0}];
       this.tell("read");
     }
   }
@@ -84,11 +104,13 @@ class Store extends EventTarget {
   }
 
   // What is known of the text that a job was given.
+  /** @param {KnownKind} kind @param {string} line @param {number} version */
   know(kind, line, version) {
-    this.known = { kind, line, version };
+    this.known = {kind, line, version};
     this.tell("known");
   }
 
+  /** @param {Mark[]} marks */
   mark(marks) {
     this.extra = marks;
     this.tell("read");

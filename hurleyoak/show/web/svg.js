@@ -1,8 +1,15 @@
 // Elements of drawings.
-import { fill } from "./dom.js";
+import {fill} from "./dom.js";
 
 const SVG = "http://www.w3.org/2000/svg";
 
-export function s(tag, props, ...kids) {
+/**
+ * @template {keyof SVGElementTagNameMap} T
+ * @param {T} tag
+ * @param {Props<SVGElementTagNameMap[T]>} [props]
+ * @param {...Kid} kids
+ * @returns {SVGElementTagNameMap[T]}
+ */
+export function s(tag, props = {}, ...kids) {
   return fill(document.createElementNS(SVG, tag), props, kids);
 }

@@ -1,8 +1,14 @@
 // Light or dark, and what the browser keeps for a tab, where it keeps anything.
 const THEMES = ["auto", "light", "dark"];
-const SIGNS = { auto: "◐", light: "☀", dark: "☾" };
+/** @type {Record<string, string>} */
+const SIGNS = {
+  auto: "◐",
+  light: "☀",
+  dark: "☾"
+};
 
 // What was kept for this tab; null where nothing was, or where the browser forbids it.
+/** @param {string} name */
 export function kept(name) {
   try {
     return sessionStorage.getItem(name);
@@ -11,6 +17,7 @@ export function kept(name) {
   }
 }
 
+/** @param {string} name @param {string} value */
 export function keep(name, value) {
   try {
     sessionStorage.setItem(name, value);
@@ -21,14 +28,16 @@ export function keep(name, value) {
 
 function keptTheme() {
   try {
-    return localStorage.getItem("pop-theme");
+    const name = localStorage.getItem("pop-theme") ?? "";
+    return THEMES.includes(name) ? name : "auto";
   } catch {
-    return null;
+    return "auto";
   }
 }
 
+/** @param {HTMLElement} button */
 export function theme(button) {
-  let now = THEMES.includes(keptTheme()) ? keptTheme() : "auto";
+  let now = keptTheme();
   const show = () => {
     document.documentElement.dataset.theme = now;
     button.textContent = SIGNS[now];
