@@ -5,7 +5,8 @@ PREFIX = /usr/local
 PROGRAM =
 PYTHON = /usr/bin/python3
 BROWSERS = test_serve_page.py test_page.py test_serve_fuzz.py test_serve_firefox.py
-SCRIPTS = bin/pop bin/install bin/test tests/test_pop tests/gallery docs/pictures/draw tests/types .ci/run
+SCRIPTS = bin/pop bin/install bin/test proofs/coq/build tests/test_pop tests/gallery \
+	docs/pictures/draw tests/types tests/page_code .ci/run
 export PREFIX DESTDIR PROGRAM POP_MAIN
 
 .PHONY: texts docs lint test test-fast install uninstall
@@ -30,6 +31,7 @@ docs: texts
 lint:
 	$(PYTHON) -m black --check --quiet hurleyoak tests bench bin/recheck
 	tests/types
+	tests/page_code
 	shellcheck -x $(SCRIPTS)
 
 # what a change of the workbench needs, on a program that is built

@@ -1,12 +1,16 @@
 #!/usr/bin/python3
-"""Holds simulations against exact Markov chains: chi-square and Kolmogorov-Smirnov, by single meetings and by batches.
+"""Holds simulations, and the chains of `pop exact`, against exact Markov chains: chi-square and Kolmogorov-Smirnov.
 
     /usr/bin/python3 bench/exact.py [RUNS] [-o FILE] [NAME..]
 
 For each protocol the chain of all its crowds is made from the moves alone, here, by no code of the simulation. Then
-RUNS runs (200,000) are made each way. Printed are the p-values: of the crowd after some meetings, and of the meeting
-of the last change. A p-value below 0.0001 is a mistake, or a chance of one in ten thousand. The last line plants a
-bias of one per cent into the draws of the batches, which has to be found.
+RUNS runs (200,000) are made each way, by single meetings and by batches. Printed are the p-values: of the crowd after
+some meetings, of the meeting of the last change, and of the runs' mean by the mean and the deviation of `pop exact`,
+whose chain has to be this one. The line `decay` is of a network in its own time, by the law of independent decays, and
+`events` of a crowd of which half goes, and others come (timed.py). Lines `placed` are of graphs and rounds (placed.py),
+and `field` has the mean field against an ensemble. A p-value below 0.0001 is a mistake, or a chance of one in ten
+thousand. The last lines plant biases of one per cent, which have to be found: into the draws of batches, a network's
+clock, the agents that an event takes, the meetings on a graph, and the time of the mean field.
 """
 
 from __future__ import annotations
@@ -15,6 +19,7 @@ import argparse
 import sys
 import time
 from collections import Counter
+from functools import cache
 from multiprocessing import get_context
 from pathlib import Path
 from typing import Iterator
@@ -26,12 +31,16 @@ from scipy import sparse, stats
 TOP = Path(__file__).resolve().parents[1]
 sys.path.insert(0, str(TOP))
 
+from hurleyoak.chain.chains import Chain as Solved  # noqa: E402
 from hurleyoak.protocol.nets import Leaf  # noqa: E402
+from hurleyoak.protocol.reactions import Reactions  # noqa: E402
 from hurleyoak.simulation import batches  # noqa: E402
 from hurleyoak.simulation.batches import Batcher  # noqa: E402
 from hurleyoak.simulation.simulation import Simulation  # noqa: E402
 from hurleyoak.text.files import load, load_path  # noqa: E402
 from hurleyoak.text.loaded import Loaded  # noqa: E402
+
+from bench import placed, timed  # noqa: E402
 
 RUNS = 200_000
 MOST_CROWDS = 20_000
@@ -40,8 +49,11 @@ TAIL = 1e-7  # of the chain's time that is left out
 DENSE = 400  # crowds, up to which a whole matrix is faster
 LONGEST = 100_000  # meetings
 BIAS = 0.01
-BIASED = "majority"  # the protocol into whose draws it is planted
+DECAYS, EVENTS, FIELD = "decay", "events", "mean field"
+BIASED = ("majority", DECAYS, EVENTS, "majority on a ring", FIELD)  # into whose draws it is planted
+BIASED_WAY = "biased"
 DOUBT = 1e-4
+NEAR = 1e-11  # what rounding may make of a chance
 FIRST_SEED = 1_000
 CELLS = 40  # of the time of the last change
 
@@ -198,8 +210,26 @@ def by_time(found: list[int], ended: Floats) -> tuple[float, float]:
     return chi_square(cells, parts, runs), float(stats.kstwo.sf(distance, runs))
 
 
-def held(name: str, runs: int, by_batches: bool, seed: int) -> tuple[float, float, float]:
-    """The p-values of one protocol one way: of the crowd, and of the last change two ways."""
+def off(values: list[int] | list[float], mean: float, deviation: float) -> float:
+    """The p-value of the values' mean."""
+    far = (sum(values) / len(values) - mean) / (deviation / len(values) ** 0.5)
+    return float(2 * stats.norm.sf(abs(far)))
+
+
+def by_mean(found: list[int], loaded: Loaded, counts: Crowd, chain: Chain, kept: list[Floats]) -> float:
+    """The p-value of the runs' mean by what `pop exact` says; 0 where its distributions are others."""
+    start, meetings = Reactions(loaded.net).start(counts), len(kept) - 1
+    answer = Solved(loaded.net, [start]).answer(start, meetings)
+    states = loaded.net.leaves[0].states
+    for crowd, chance in answer.after.crowds if answer.after else []:
+        at = chain.numbers[tuple(crowd.get(state, 0) for state in states)]
+        if abs(float(chance) - kept[meetings][at]) > NEAR:
+            return 0.0
+    return off(found, float(answer.mean), answer.deviation)
+
+
+def held(name: str, runs: int, by_batches: bool, seed: int) -> tuple[float, float, float, float]:
+    """The p-values of one protocol one way: of the crowd, of the last change two ways, and of its mean."""
     source, counts = PROTOCOLS[name]
     loaded = load(source, name) if "\n" in source else load_path(str(TOP / source))
     leaf = loaded.net.leaves[0]
@@ -216,7 +246,68 @@ def held(name: str, runs: int, by_batches: bool, seed: int) -> tuple[float, floa
         crowd, last = made.one(meetings, len(start))
         crowds[chain.numbers.get(crowd, len(chain.crowds))] += 1
         times.append(last)
-    return (chi_square(crowds, kept[meetings], runs), *by_time(times, ended))
+    mean = by_mean(times, loaded, counts, chain, kept)
+    return (chi_square(crowds, kept[meetings], runs), *by_time(times, ended), mean)
+
+
+def clocked(runs: int, seed: int) -> tuple[float, float, float, float]:
+    """The p-values of a network in its own time: of the crowd at a time, of the last change two ways, and its mean."""
+    alive, times = timed.decays(runs, seed)
+    rate, agents = timed.DECAY_RATE, timed.DECAYING
+    law = stats.binom(agents, np.exp(-rate * timed.DECAY_TIME)).pmf(np.arange(agents + 1))
+    ended = stats.kstest(times, lambda t: stats.expon(scale=1 / rate).cdf(t) ** agents)
+    cells = Counter(int(CELLS * (1 - np.exp(-rate * t)) ** agents) for t in times)
+    mean, deviation = timed.decay_by_exact()
+    even = np.full(CELLS, 1 / CELLS)
+    return (
+        chi_square(alive, law, runs),
+        chi_square(cells, even, runs),
+        float(ended.pvalue),
+        off(times, mean, deviation),
+    )
+
+
+def with_events(runs: int, seed: int) -> tuple[float, float, float, float]:
+    """The p-values of runs with events: of the crowd, of the last change two ways, and of its mean."""
+    leaf = load(timed.EPIDEMIC, "epidemic").net.leaves[0]
+    places = [leaf.inputs.index(state) for state in range(len(leaf.states))]
+
+    @cache
+    def of(counts: Crowd) -> tuple[list[timed.Law], Floats]:
+        chain = Chain(leaf, tuple(counts[place] for place in places))
+        kept, ended = chain.times()
+        # (laws by counts in the order of the inputs)
+        crowds = [tuple(crowd[state] for state in leaf.inputs) for crowd in chain.crowds]
+        laws = [{crowd: float(part) for crowd, part in zip(crowds, law)} for law in kept]
+        return [*laws, *[laws[-1]] * timed.GOING], ended  # (all is over where it ends)
+
+    law, ended = timed.happening_law(of)
+    found, times = timed.happenings(runs, seed)
+    numbers = {crowd: at for at, crowd in enumerate(law)}
+    cells = Counter({numbers.get(tuple(crowd[state] for state in leaf.inputs), -1): k for crowd, k in found.items()})
+    parts = np.diff([0.0, *ended])
+    mean = float(parts @ np.arange(len(parts)))
+    deviation = float(parts @ (np.arange(len(parts)) - mean) ** 2) ** 0.5
+    return (chi_square(cells, np.array([*law.values()]), runs), *by_time(times, ended), off(times, mean, deviation))
+
+
+def on_places(name: str, runs: int, seed: int) -> tuple[float, float, float, float]:
+    """The p-values of agents with places: of the crowd, of the last change two ways, and of its mean."""
+    source, counts, *_ = placed.WAYS[name]
+    loaded = load(source, name) if "\n" in source else load_path(str(TOP / source))
+    chain, placing = placed.placed_chain(loaded, name, outcomes)
+    meetings = 2 if placing.rounds else sum(counts)
+    kept, ended = chain.times(meetings)
+    crowds, times = placed.runs_of(loaded, counts, placing, meetings, runs, seed * runs)
+    numbers = {crowd: at for at, crowd in enumerate(sorted({chain.counts(at) for at in range(len(chain.all))}))}
+    law = np.zeros(len(numbers))
+    for at, part in enumerate(kept):
+        law[numbers[chain.counts(at)]] += part
+    found = Counter({numbers.get(crowd, len(numbers)): k for crowd, k in crowds.items()})
+    parts = np.diff([0.0, *ended])
+    mean = float(parts @ np.arange(len(parts)))
+    deviation = float(parts @ (np.arange(len(parts)) - mean) ** 2) ** 0.5
+    return (chi_square(found, law, runs), *by_time(times, ended), off(times, mean, deviation))
 
 
 def always() -> None:
@@ -240,30 +331,53 @@ def _task(task: tuple[str, str, int, int]) -> tuple[float, str]:
     """The least p-value of a protocol and a way, and its line of the table."""
     name, way, seed, runs = task
     always()
-    if way == "biased":
+    if way == BIASED_WAY:
         plant()
+        placed.plant()
+        timed.plant()
     start = time.process_time()
-    found = held(name, runs, way != "meetings", seed)
+    if name in placed.WAYS:
+        found = on_places(name, runs, seed)
+    elif name == FIELD:
+        found = (1.0, 1.0, 1.0, placed.by_field(runs, seed, placed.BIAS if way == BIASED_WAY else 0.0))
+    elif name in (DECAYS, EVENTS):
+        found = clocked(runs, seed) if name == DECAYS else with_events(runs, seed)
+    else:
+        found = held(name, runs, way != "meetings", seed)
     took = time.process_time() - start
-    return min(found), f"{name:<20}  {way:<8}  {found[0]:>8.4f}  {found[1]:>11.4f}  {found[2]:>8.4f}  {took:>7.0f}"
+    return (
+        min(found),
+        f"{name:<20}  {way:<8}  {found[0]:>8.4f}  {found[1]:>11.4f}  {found[2]:>8.4f}  {found[3]:>8.4f}  {took:>7.0f}",
+    )
+
+
+def tasks_of(names: list[str], runs: int) -> list[tuple[str, str, int, int]]:
+    """The lines of the table: a name, a way, a seed and how many runs."""
+    tasks = [
+        (name, way, FIRST_SEED + at, runs) for at, name in enumerate(PROTOCOLS) for way in ("meetings", "batches")
+    ]
+    tasks += [(DECAYS, "own time", FIRST_SEED, runs), (EVENTS, "meetings", FIRST_SEED, runs)]
+    tasks += [(name, "placed", FIRST_SEED + at, runs) for at, name in enumerate(placed.WAYS)]
+    tasks += [(FIELD, "field", FIRST_SEED, runs)]
+    # (with fewer runs so small a bias may hide)
+    tasks += [(name, BIASED_WAY, 1, max(runs, RUNS)) for name in BIASED]
+    return [task for task in tasks if not names or task[0] in names]
 
 
 def main() -> int:
     """Prints the table; 1 where a p-value is too small, or the bias isn't found."""
     words = argparse.ArgumentParser(description=__doc__, formatter_class=argparse.RawDescriptionHelpFormatter)
     words.add_argument("runs", nargs="?", type=int, default=RUNS)
-    words.add_argument("names", nargs="*", default=[*PROTOCOLS])
+    words.add_argument("names", nargs="*", default=[])
     words.add_argument("-o", "--output", type=Path)
     words.add_argument("--jobs", type=int, default=1, help="processes at once")
     given = words.parse_args()
     lines = [
         f"# p-values against exact chains, {given.runs:,} runs each (bench/exact.py)",
-        f"{'protocol':<20}  {'way':<8}  {'crowd':>8}  {'last change':>11}  {'by KS':>8}  {'seconds':>7}",
+        f"{'protocol':<20}  {'way':<8}  {'crowd':>8}  {'last change':>11}  {'by KS':>8}  {'mean':>8}  {'seconds':>7}",
     ]
     print("\n".join(lines), flush=True)
-    ways = ("meetings", "batches")
-    tasks = [(name, way, FIRST_SEED + number, given.runs) for number, name in enumerate(given.names) for way in ways]
-    tasks.append((BIASED, "biased", 1, max(given.runs, RUNS)))  # (with fewer runs so small a bias may hide)
+    tasks = tasks_of(given.names, given.runs)
     least: list[float] = []
     # (each task has a process of its own, so that the planted bias stays there)
     with get_context("spawn").Pool(given.jobs, maxtasksperchild=1) as pool:
@@ -273,7 +387,7 @@ def main() -> int:
             print(line, flush=True)
             if given.output:
                 given.output.write_text("\n".join(lines) + "\n")
-    return int(min(least[:-1]) < DOUBT or least[-1] >= DOUBT)
+    return int(any((value < DOUBT) != (way == BIASED_WAY) for value, (_, way, *_) in zip(least, tasks)))
 
 
 if __name__ == "__main__":

@@ -41,7 +41,7 @@ def net_line() -> str:
 
 def built(folder: str) -> str:
     files = {"src/main.rt": MAIN, "proofs/words_of/Invariants.antt": INVARIANT}
-    uses = ["pop_io", "pop_lines", "pop_net", "net_json", "pop_crowd", "terminal_test", "serde_json"]
+    uses = ["pop_io", "base_lines", "pop_net", "net_json", "pop_crowd", "terminal_test", "serde_json"]
     return built_over(folder, {"pairs": Small(uses, files)})["pairs"]
 
 

@@ -29,4 +29,4 @@ bin/pop replay < examples/replays/held.txt
 bin/pop replay < examples/replays/changed-mark.txt
 cat examples/majority/bundle.json examples/majority/crowd.txt | bin/pop run --workers 4 | bin/pop replay | cut -d ' ' -f 1
 cat examples/majority/bundle.json examples/majority/crowd.txt | bin/pop watch --workers 4 | bin/pop replay --watched | cut -d ' ' -f 1
-bin/pop simulate examples/majority/majority.pop x=480 y=520 --seed 1 | tail -n 4
+bin/pop simulate examples/tellers/tellers.pop x=520 y=480 --seed 1 | tail -n 4

@@ -3,13 +3,12 @@ of it.
 
 `python3 -m bench.finder.benchmark PART.. [--seconds N]` measures the nets of parts that have no line in
 bench/results/find.txt yet: `published`, `late`, `mutants`. `--write` puts the tables between the marks of
-docs/guide/finding.md. No verdict rests on a clock on the wall: each limit counts the work of this process, so that a
-busy machine has the same table.
+docs/guide/finding.md. Limits count the work of processes; the same seconds by the wall end a search, so an idle
+machine is needed.
 """
 from __future__ import annotations
 
 import sys
-import time
 from dataclasses import dataclass
 from typing import Callable, Iterator
 
@@ -23,6 +22,7 @@ from .late import late_nets
 from .making import Case
 from .mutants import mutants
 from .published import published, quoted
+from .worked import worked
 
 RESULTS = TOP / "bench" / "results" / "find.txt"
 PAGE = TOP / "docs" / "guide" / "finding.md"
@@ -87,9 +87,9 @@ def _result(case: Case, loaded: LoadedNet, seconds: float) -> tuple[str, str]:
 def measured(part: str, case: Case, least: int, seconds: float) -> Line:
     """One net."""
     loaded = LoadedNet(case.name, case.net, case.predicate, list(case.leaves or [case.predicate]))
-    start = time.process_time()
+    start = worked()
     result, nodes = _result(case, loaded, seconds)
-    took = round(time.process_time() - start, 1)
+    took = round(worked() - start, 1)
     states, moves = (sum(map(len, parts)) for parts in zip(*((leaf.states, leaf.moves) for leaf in case.net.leaves)))
     return Line(part, case.family, case.name, states, moves, least, took, result, nodes, quoted(case))
 

@@ -4,10 +4,12 @@ from __future__ import annotations
 
 import sys
 import textwrap
-from dataclasses import replace
 from pathlib import Path
 
 from hurleyoak.engine import program
+from hurleyoak.proof.bundles import Bundle
+from hurleyoak.proof.tame import is_tame_bundle
+from hurleyoak.simulation.chains import longest_of
 from hurleyoak.text.loaded import LoadedNet
 from hurleyoak.search.finding import find
 from hurleyoak.text.writer import text_of
@@ -19,6 +21,7 @@ ANGLUIN = "Angluin and others 2006"
 FLOCKS = "after Blondin, Esparza and Jaax 2018"
 FLOCKS_OURS = "ours, over Blondin, Esparza and Jaax 2018"
 SECONDS, SMALL = 60.0, 8.0
+QUICK = {"average-and-conquer": "tellers"}  # where no name says which protocol is quick
 WIDTH = 110
 
 # the file's name, the protocol, how it works, its source
@@ -53,6 +56,13 @@ GALLERY: list[tuple[str, Case, str, str]] = [
     ("either", own.either(), "Three of x or two of y, in one leaf", "ours"),
     ("equal", own.same(True), "Agents of x and y cancel out, and who is left over says no", "ours"),
     (
+        "equal-that-tells",
+        own.telling_same(True),
+        "Agents of x and y cancel out and become tellers, who say yes and make others say it, until one who is left over"
+        " silences them",
+        "ours",
+    ),
+    (
         "flock-that-gives-back",
         own.giving_back(p.log_flock(2), "4", "0", "2"),
         "A flock whose 4 makes empty agents 2 first. Only `first` says why: before there is a 4, four agents were put"
@@ -73,6 +83,12 @@ GALLERY: list[tuple[str, Case, str, str]] = [
         "Majority in which two helpers give y a head start",
         "ours, over Blondin, Esparza, Jaax and Meyer 2017",
     ),
+    (
+        "head-start-that-tells",
+        own.telling_majority(False, 2),
+        "Majority with tellers in which two helpers give y a head start",
+        "ours",
+    ),
     ("helper-remainder", own.helper_rest(3), "A helper keeps the remainder modulo 3", "ours"),
     (
         "interval",
@@ -86,11 +102,24 @@ GALLERY: list[tuple[str, Case, str, str]] = [
         "Majority with four states that says yes at a tie",
         "Blondin, Esparza, Jaax and Meyer 2017",
     ),
+    (
+        "majority-with-ties-that-tells",
+        own.telling_majority(True),
+        "Majority in five states that says yes at a tie, which tellers tell",
+        "ours, over Blondin, Esparza, Jaax and Meyer 2017",
+    ),
     ("mod-three", own.mod_three(), "Remainder 0 modulo 3 in four states, without leaders", "ours"),
     (
+        "mod-three-that-tells",
+        own.telling_mod_three(),
+        "Remainders add up; two that give 0 become tellers, who say yes and make others say it, until one who has a"
+        " remainder silences them",
+        "ours",
+    ),
+    (
         "product",
-        product("product", "epidemic and majority", p.epidemic(), p.majority(False), "&&"),
-        "Two protocols in one leaf, by pairs of states",
+        product("product", "epidemic and majority", p.epidemic(), own.telling_majority(False), "&&"),
+        "Two protocols in one leaf, by pairs of states: an epidemic, and majority with tellers",
         "product, Angluin and others 2006",
     ),
     ("recall", own.broadcast(), "A message that holds unless somebody recalls it", "ours"),
@@ -102,8 +131,22 @@ GALLERY: list[tuple[str, Case, str, str]] = [
         FLOCKS_OURS,
     ),
     ("twice", own.twice(), "Each y stands for two debts, which the x pay", "ours"),
+    (
+        "twice-that-tells",
+        own.telling_twice(),
+        "An A is worth 1, a B -2 and a C -1. What cancels out becomes a teller, who says yes and makes others say it,"
+        " until somebody with a debt silences it",
+        "ours",
+    ),
     ("two-rumours", own.two_rumours(), "Who has heard two rumours tells all", ANGLUIN),
     ("unequal", own.same(False), "Agents of x and y cancel out, and who is left over says yes", "ours"),
+    (
+        "unequal-that-tells",
+        own.telling_same(False),
+        "Agents of x and y cancel out and become tellers, who say no and make others say it, until one who is left over"
+        " silences them",
+        "ours",
+    ),
 ]
 
 APPROXIMATE = """# approximate-majority: y - x < 0. Agents of x and y make each other undecided, and the undecided
@@ -121,6 +164,22 @@ computes  y - x < 0
 """
 
 
+def how_slow(name: str, bundle: Bundle) -> str:
+    """How long the end takes where the layers aren't tame, and which protocol is quick; nothing where they are."""
+    found = None if is_tame_bundle(bundle) else longest_of(bundle.net.leaves[0])
+    if found is None:
+        return ""
+    crowd = " ".join(f"{variable}={k}" for variable, k in zip(bundle.net.names, found.counts))
+    quick = QUICK.get(name, f"{name}-that-tells")
+    return f" Slow: {round(found.meetings):,} meetings on average at {found.agents} agents, {crowd}; {quick} is quick."
+
+
+def head_of(name: str, case: Case, told: str, source: str, bundle: Bundle) -> str:
+    """The first lines of a file."""
+    text = f"{name}: {case.predicate}. {told}.{how_slow(name, bundle)} Source: {source}."
+    return "\n".join(textwrap.wrap(text, WIDTH, initial_indent="# ", subsequent_indent="# "))
+
+
 def written(name: str, case: Case, told: str, source: str) -> tuple[str, str]:
     """The file's text and what `check` says of it."""
     loaded = LoadedNet(name, case.net, case.predicate, [case.predicate])
@@ -130,10 +189,7 @@ def written(name: str, case: Case, told: str, source: str) -> tuple[str, str]:
     answer = program.check(found.bundle.line())
     if answer.status != program.DONE:
         raise SystemExit(f"{name}: {answer.first_line}")
-    head = textwrap.wrap(
-        f"{name}: {case.predicate}. {told}. Source: {source}.", WIDTH, initial_indent="# ", subsequent_indent="# "
-    )
-    return "\n".join(head) + "\n\n" + text_of(case.net, replace(found.bundle)), answer.first_line + "\n"
+    return f"{head_of(name, case, told, source, found.bundle)}\n\n{text_of(case.net, found.bundle)}", answer.text
 
 
 def main(folder: Path) -> None:

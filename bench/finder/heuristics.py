@@ -4,7 +4,6 @@ moves; with `--small` those that make a found tree smaller."""
 from __future__ import annotations
 
 import sys
-import time
 from contextlib import ExitStack, contextmanager
 from typing import Any, Iterator
 
@@ -16,6 +15,7 @@ from . import own_protocols as own
 from . import protocols as p
 from .families import compiled
 from .making import Case, product
+from .worked import worked
 
 SECONDS = 300.0
 SMALL = 4.0  # as `find` has it where nothing is said
@@ -88,7 +88,7 @@ def patched(patches: list[Patch]) -> Iterator[None]:
 
 def measured(cases: list[Case], small: float) -> tuple[float, int, int]:
     """Seconds, nodes of those found, and how many weren't."""
-    start, nodes, lost = time.process_time(), 0, 0
+    start, nodes, lost = worked(), 0, 0
     for case in cases:
         found = find(
             LoadedNet(case.name, case.net, case.predicate, list(case.leaves or [case.predicate])),
@@ -100,7 +100,7 @@ def measured(cases: list[Case], small: float) -> tuple[float, int, int]:
             lost += 1
         else:
             nodes += sum(len(part.tree(True)) + len(part.tree(False)) for part in found.bundle.proof)
-    return time.process_time() - start, nodes, lost
+    return worked() - start, nodes, lost
 
 
 def main(arguments: list[str]) -> None:

@@ -208,3 +208,67 @@ def restless_flock() -> Case:
         ["1", "0"],
         ["4", "F"],
     )
+
+
+def telling_majority(ties: bool, head_start: int = 0) -> Case:
+    """Majority whose ties are told by tellers, whom a winner silences; helpers may give y a head start."""
+    winner, loser = ("B", "A") if ties else ("A", "B")
+    own, other = winner.lower(), loser.lower()
+    moves = [
+        ("A", "B", "T", "T"),
+        (winner, "T", winner, own),
+        (winner, other, winner, own),
+        (loser, own, loser, other),
+        ("T", own, "T", other),
+    ]
+    predicate = "y - x < 1" if ties else f"y - x < {-head_start}"
+    yes = ["A", "T", "a"] if ties else ["A", "a"]
+    return one(
+        "own", "tellers", predicate, "x y", ["A", "B", "T", "a", "b"], moves, ["A", "B"], yes, ["B"] * head_start
+    )
+
+
+def telling_same(equal: bool) -> Case:
+    """x = y, or its negation: pairs that cancel out become tellers, whom anyone left over silences."""
+    moves = [
+        ("A", "B", "T", "T"),
+        ("A", "T", "A", "f"),
+        ("B", "T", "B", "f"),
+        ("A", "t", "A", "f"),
+        ("B", "t", "B", "f"),
+        ("T", "f", "T", "t"),
+    ]
+    yes = ["T", "t"] if equal else ["A", "B", "f"]
+    predicate = "x - y = 0" if equal else "x - y != 0"
+    return one("own", "tellers of equality", predicate, "x y", ["A", "B", "T", "t", "f"], moves, ["A", "B"], yes)
+
+
+def telling_mod_three() -> Case:
+    """Remainder 0 modulo 3 without leaders: two that add up to 0 become tellers."""
+    moves = [
+        ("1", "1", "2", "f"),
+        ("2", "2", "1", "f"),
+        ("1", "2", "T", "T"),
+        ("1", "T", "1", "f"),
+        ("2", "T", "2", "f"),
+        ("1", "t", "1", "f"),
+        ("2", "t", "2", "f"),
+        ("T", "f", "T", "t"),
+    ]
+    return one("own", "tellers modulo 3", "x = 0 mod 3", "x", ["1", "2", "T", "t", "f"], moves, ["1"], ["T", "t"])
+
+
+def telling_twice() -> Case:
+    """x >= 2y: an A is worth 1, a B -2, a C -1, and what cancels out becomes a teller."""
+    moves = [
+        ("A", "B", "C", "T"),
+        ("A", "C", "T", "T"),
+        ("B", "T", "B", "b"),
+        ("C", "T", "C", "b"),
+        ("B", "a", "B", "b"),
+        ("C", "a", "C", "b"),
+        ("A", "b", "A", "a"),
+        ("T", "b", "T", "a"),
+    ]
+    states = ["A", "B", "C", "T", "a", "b"]
+    return one("own", "tellers of twice", "2*y - x < 1", "x y", states, moves, ["A", "B"], ["A", "T", "a"])

@@ -3,7 +3,6 @@
 from __future__ import annotations
 
 import sys
-import time
 from typing import Iterable
 
 from hurleyoak.engine import program
@@ -12,6 +11,7 @@ from hurleyoak.text.loaded import LoadedNet
 from hurleyoak.search.finding import find
 from .families import large_nets, small_nets
 from .making import Case
+from .worked import worked
 
 HEADER = "family\tname\tstates\tmoves\tseconds\tnodes\tresult"
 
@@ -19,9 +19,9 @@ HEADER = "family\tname\tstates\tmoves\tseconds\tnodes\tresult"
 def measured(case: Case, seconds: float, small: float) -> str:
     """One line: what was found, and what the program says of it."""
     loaded = LoadedNet(case.name, case.net, case.predicate, list(case.leaves or [case.predicate]))
-    start = time.process_time()
+    start = worked()
     found = find(loaded, seconds, small, jobs=1)
-    took = time.process_time() - start
+    took = worked() - start
     states = sum(len(leaf.states) for leaf in case.net.leaves)
     moves = sum(len(leaf.moves) for leaf in case.net.leaves)
     if found.bundle is not None:
