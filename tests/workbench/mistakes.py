@@ -204,7 +204,7 @@ MISTAKES: tuple[Mistake, ...] = (
         "fault: usage 1 unknown",
         (
             "`-` has no place here: put the whole predicate in quotes, as in pop compile 'x - y < 3' [--succinct |"
-            " --plain | --flocks] [--helpers none] [--text] [-o FILE]"
+            " --quick | --plain | --flocks] [--helpers none] [--text] [-o FILE]"
         ),
     ),
     Mistake(
@@ -213,7 +213,7 @@ MISTAKES: tuple[Mistake, ...] = (
         1,
         "fault: usage 1 unknown",
         (
-            "`-o` is followed by the file to write: pop compile 'x - y < 3' [--succinct | --plain | --flocks]"
+            "`-o` is followed by the file to write: pop compile 'x - y < 3' [--succinct | --quick | --plain | --flocks]"
             " [--helpers none] [--text] [-o FILE]"
         ),
     ),

@@ -172,7 +172,11 @@ def test_each_example_is_found_again() -> None:
             again = good(
                 find(LoadedNet("x", bundle.net, bundle.pred, [part.pred for part in bundle.proof]), 60.0, 0.0, jobs=1)
             )
-            assert len(verdict(again)) and int(verdict(again).split()[1]) <= int(verdict(bundle).split()[1])
+            assert verdict(again).startswith("certified ")
+            # (tame layers are sought first, and they may be one more)
+            for part, known in zip(again.proof, bundle.proof):
+                assert isinstance(part, LeafProof) and isinstance(known, LeafProof)
+                assert len(part.layers) <= len(known.layers) + 1
 
 
 def test_two_processes_find_the_same() -> None:
