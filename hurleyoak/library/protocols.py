@@ -235,24 +235,18 @@ class Protocol:
     def sweep(self, runs: int = RUNS, seed: int = 0, progress: bool = False, **sizes: int | Iterable[int]) -> Table:
         """Many runs for each size: `sweep(x=[10, 100, 1000], y=5)`; ranges go in step. Sizes that the file leaves out
         by `assume` are passed over."""
-        from ..simulation.growth import quantile
+        from .sweeps import swept
 
         runs = asked.runs(runs)
         seed = asked.seed(seed, runs)
         met = [counts for counts in asked.sizes(sizes) if self._loaded.meets(self._counts(counts))]
-        rows: list[dict[str, Any]] = []
-        for counts in asked.shown(met, progress):
-            made = [
-                self.simulate(self._stream(seed + k, counts), None, None, None, (), None, None, False, False, **counts)
-                for k in range(runs)
-            ]
-            ends = sorted(float(run.last_change) for run in made if run.terminal)
-            figures = {f"{part:.0%} end": quantile(ends, part) for part in (0.25, 0.5, 0.75)} if ends else {}
-            wrong = sum(run.right is False for run in made) if self.predicate is not None else None
-            rows.append(
-                {**counts, "agents": made[0].agents, "runs": runs, "ended": len(ends), "wrong": wrong, **figures}
-            )
-        return Table(rows)
+
+        def made(counts: Size, at: int) -> Run:
+            seed_here = self._stream(seed + at, counts)
+            return self.simulate(seed_here, None, None, None, (), None, None, False, False, **counts)
+
+        crowds = [crowd_words(self.net, self._counts(counts)) for counts in met]
+        return swept(self._loaded.name, asked.shown(met, progress), crowds, runs, made)
 
     def exact(
         self, fractions: bool = False, after: int | None = None, volume: float | None = None, **counts: int

@@ -154,10 +154,15 @@ class Runs:
 
 @dataclass(frozen=True)
 class Table:
-    """A row for each size: of runs, with quartiles of the meetings to the end, or of the slowest inputs."""
+    """A row for each size: of runs, with the figures of `bin/pop sweep`, or of the slowest inputs. `text` is what that
+    command prints, with the growth."""
 
     rows: list[dict[str, Any]]
     source: str = "measured, not proved"
+    text: str = field(repr=False, default="")
+
+    def __repr__(self) -> str:
+        return f"{self.text}\n{self.source}" if self.text else f"Table(rows={self.rows!r}, source={self.source!r})"
 
     def frame(self) -> DataFrame:
         """The rows as a table of pandas."""
@@ -173,5 +178,14 @@ class Table:
         if not self.rows:
             return "<p>no runs</p>"
         head = "".join(f"<th>{escape(name)}</th>" for name in self.rows[0])
-        body = "".join("<tr>" + "".join(f"<td>{cell}</td>" for cell in row.values()) + "</tr>" for row in self.rows)
+        body = "".join(
+            "<tr>" + "".join(f"<td>{_cell(cell)}</td>" for cell in row.values()) + "</tr>" for row in self.rows
+        )
         return f"<table><tr>{head}</tr>{body}</table><p>{self.source}</p>"
+
+
+def _cell(value: object) -> str:
+    """A value in a notebook."""
+    if isinstance(value, tuple):
+        return " to ".join(map(_cell, value))
+    return f"{value:,.4g}" if isinstance(value, float) else "-" if value is None else escape(str(value))

@@ -29,6 +29,7 @@ Item = Union[int, str]
 
 VARIABLE_NAME = re.compile(r"[A-Za-z_][A-Za-z0-9_]*")
 STATE_NAME = re.compile(r"[!-.0-~]+")
+NO_BYTE = re.compile("[\ud800-\udc7f\udd00-\udfff]")  # surrogates that stand for no byte of a file
 
 
 class FormatFault(Exception):
@@ -131,8 +132,10 @@ class Net:
 
 
 def compact(value: Any) -> str:
-    """JSON on one line as the tool writes it: no blanks, members in the byte order of their names."""
-    return json.dumps(value, separators=(",", ":"), sort_keys=True, ensure_ascii=False)
+    """JSON on one line as the tool writes it: no blanks, members in the byte order of their names, and escapes for
+    surrogates that stand for no byte."""
+    text = json.dumps(value, separators=(",", ":"), sort_keys=True, ensure_ascii=False)
+    return NO_BYTE.sub(lambda found: f"\\u{ord(found[0]):04x}", text)
 
 
 def whole(value: Any, path: str, low: int = -WHOLE_LIMIT, high: int = WHOLE_LIMIT - 1) -> int:

@@ -37,8 +37,7 @@ class Gathered:
     """Results by job, each once."""
 
     def __init__(self, jobs: Sequence[Job]) -> None:
-        self.names = [job.text() for job in jobs]
-        self.wanted = set(self.names)
+        self.wanted = {job.text() for job in jobs}
         self.found: dict[str, Result] = {}
         self.odd = 0
         self.journal: TextIO | None = None  # where each new result is kept at once
@@ -64,7 +63,7 @@ class Gathered:
 
     def missing(self, jobs: Sequence[Job]) -> list[Job]:
         """The jobs without a result."""
-        return [job for job, name in zip(jobs, self.names) if name not in self.found]
+        return [job for job in jobs if job.text() not in self.found]
 
 
 def read_folder(path: str, gathered: Gathered) -> None:
@@ -98,7 +97,7 @@ def journal_of(path: str, gathered: Gathered) -> Iterator[None]:
         gathered.journal = None
 
 
-def done_here(jobs: Sequence[Job], gathered: Gathered, told: Callable[[], None]) -> None:
+def done_here(jobs: Iterable[Job], gathered: Gathered, told: Callable[[], None]) -> None:
     """Does the jobs one after the other in this process."""
     loaded = {}
     for job in jobs:

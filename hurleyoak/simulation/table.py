@@ -9,12 +9,17 @@ from typing import Sequence
 
 from ..faults import InputFault
 from .growth import growth_told, quantile
+from .intervals import margin, wilson
 from .sweepjobs import Result
 
 MARK = "# sweep "
 PARTS = [("quarter", 0.25), ("median", 0.5), ("three quarters", 0.75), ("95%", 0.95)]
 ABOUT = ["net", "crowd", "n", "runs", "undecided", "wrong"]
-FIGURES = [f"{what} {name}" for what in ("end", "agreed") for name in [*(name for name, _ in PARTS), "mean"]]
+INTERVAL = "interval"  # of the share of wrong runs
+MEAN, MARGIN = "mean", "margin"
+FIGURES = [f"{what} {name}" for what in ("end", "agreed") for name in [*(name for name, _ in PARTS), MEAN, MARGIN]]
+WORDS = 2  # columns at the left, which hold words
+NOT_WITHIN = "not within"
 
 
 @dataclass
@@ -32,15 +37,23 @@ class Row:
     wrong: float | None
     figures: dict[str, float | None] = field(default_factory=dict)
 
+    @property
+    def interval(self) -> tuple[float, float] | None:
+        """Where the share of wrong runs lies."""
+        return None if self.wrong is None else wilson(round(self.wrong * self.runs), self.runs)
+
 
 def _figures(what: str, values: Sequence[int | None]) -> dict[str, float | None]:
-    """Quantiles, in which a run that did not come so far counts as endless; the mean only where all did."""
+    """Quantiles, in which a run that did not come so far counts as endless; the mean, with an interval of so much to
+    either side, only where all did."""
     sorted_ = sorted(math.inf if value is None else float(value) for value in values)
     out: dict[str, float | None] = {}
     for name, part in PARTS:
         found = quantile(sorted_, part)
         out[f"{what} {name}"] = found if math.isfinite(found) else None
-    out[f"{what} mean"] = sum(sorted_) / len(sorted_) if math.isfinite(sorted_[-1]) else None
+    all_came = math.isfinite(sorted_[-1])
+    out[f"{what} {MEAN}"] = sum(sorted_) / len(sorted_) if all_came else None
+    out[f"{what} {MARGIN}"] = margin(sorted_) if all_came else None
     return out
 
 
@@ -66,30 +79,65 @@ def share(value: float | None) -> str:
     return "-" if value is None else f"{value:.0%}"
 
 
+def _interval(row: Row) -> str:
+    """Where the share of wrong runs lies, as it is printed."""
+    if row.interval is None:
+        return "-"
+    low, high = row.interval
+    return f"{low * 100:.0f}-{high:.0%}"
+
+
+def _line(parts: Sequence[str], widths: Sequence[int], words: int) -> str:
+    """A line of a table, the first columns to the left and the others to the right."""
+    made = [part.ljust(w) if i < words else part.rjust(w) for i, (part, w) in enumerate(zip(parts, widths))]
+    return "  ".join(made).rstrip()
+
+
 def _columns(title: str, lines: Sequence[Sequence[str]], words: int) -> list[str]:
-    """Lines below a title, the first columns to the left and the others to the right."""
+    """Lines below a title."""
     widths = [max(len(line[i]) for line in lines) for i in range(len(lines[0]))]
-    made = [
-        "  ".join(part.ljust(w) if i < words else part.rjust(w) for i, (part, w) in enumerate(zip(line, widths)))
-        for line in lines
-    ]
-    return [title, *(line.rstrip() for line in made)]
+    return [title, *(_line(line, widths, words) for line in lines)]
 
 
-def aligned(rows: Sequence[Row]) -> str:
-    """The table as text, in three parts, so that it fits into a terminal."""
-    about = [ABOUT]
-    for row in rows:
-        about.append([row.net, row.crowd, str(row.n), str(row.runs), f"{row.undecided:.0%}", share(row.wrong)])
-    out = _columns("runs", about, 2)
+class Runs:
+    """The first part of the table, line by line: `widest` are the words and numbers that its lines may have."""
+
+    def __init__(self, widest: Sequence[tuple[str, str, int, int]]) -> None:
+        head = [*ABOUT, INTERVAL]
+        columns = [[head[i], *(str(one[i]) for one in widest)] for i in range(len(ABOUT) - 2)]
+        self.widths = [max(map(len, column)) for column in columns] + [len(name) for name in head[len(columns) :]]
+        self.head = ["runs", _line(head, self.widths, WORDS)]
+
+    def line(self, row: Row) -> str:
+        """The line of a row."""
+        about = [row.net, row.crowd, str(row.n), str(row.runs), f"{row.undecided:.0%}", share(row.wrong)]
+        return _line([*about, _interval(row)], self.widths, WORDS)
+
+
+def _cell(row: Row, name: str) -> str:
+    """A figure; a quantile that is beyond the limit of the runs says so."""
+    what, part = name.split(" ", 1)
+    is_endless = part not in (MEAN, MARGIN) and row.figures[f"end {part}"] is None and row.undecided > 0
+    return NOT_WITHIN if row.figures[name] is None and is_endless else shown(row.figures[name])
+
+
+def quantiles(rows: Sequence[Row]) -> str:
+    """The other two parts of the table."""
+    out = []
     nets = len({row.net for row in rows}) > 1
     for what, title in (("end", "meetings to the end"), ("agreed", "meetings to agreement")):
         names = [name for name in FIGURES if name.startswith(f"{what} ")]
         lines = [[*(["net"] if nets else []), "n", *(name.split(" ", 1)[1] for name in names)]]
         for row in rows:
-            lines.append([*([row.net] if nets else []), str(row.n), *(shown(row.figures[name]) for name in names)])
+            lines.append([*([row.net] if nets else []), str(row.n), *(_cell(row, name) for name in names)])
         out += ["", *_columns(title, lines, int(nets))]
     return "\n".join(out)
+
+
+def aligned(rows: Sequence[Row]) -> str:
+    """The table as text, in three parts, so that it fits into a terminal."""
+    runs = Runs([(row.net, row.crowd, row.n, row.runs) for row in rows])
+    return "\n".join([*runs.head, *map(runs.line, rows), quantiles(rows)])
 
 
 def growths(rows: Sequence[Row]) -> list[str]:
@@ -132,7 +180,10 @@ def read_csv(text: str, name: str) -> tuple[list[Row], str]:
     rows = []
     try:
         for one in csv.DictReader(io.StringIO(rest)):
-            figures = {key: float(one[key]) if one[key] else None for key in FIGURES}
+            # (tables of before have no margins)
+            figures = {
+                key: float(one[key]) if one.get(key) or MARGIN not in key and one[key] else None for key in FIGURES
+            }
             rows.append(
                 Row(
                     one["net"],

@@ -83,6 +83,19 @@ def test_a_malformed_text_stays_malformed_on_one_line() -> None:
 
 
 @needs_program
+@pytest.mark.parametrize("command", ["check", "show", "play", "explain", "find"])
+@pytest.mark.parametrize("escape", ["\\ud800", "\\udc80", "\\udfff\\ud800"])
+def test_a_lone_surrogate_is_refused(command: str, escape: str, tmp_path: Path) -> None:
+    """It is no character, and JSON may have it as an escape."""
+    file = tmp_path / "odd.json"
+    bundle = json.loads((MAJORITY / "bundle.json").read_text())
+    bundle["net"]["leaves"][0]["moves"][0][3] = "?"
+    file.write_text(json.dumps(bundle).replace('"?"', f'"{escape}"'))
+    run = subprocess.run([POP, command, str(file)], input="", capture_output=True, text=True, check=False)
+    assert run.returncode == program.REFUSED and "Traceback" not in run.stderr
+
+
+@needs_program
 def test_a_file_gives_what_standard_input_gives(tmp_path: Path) -> None:
     bundle = (MAJORITY / "bundle.json").read_text()
     pretty = tmp_path / "pretty.json"

@@ -10,6 +10,7 @@ from pathlib import Path
 import pytest
 
 from hurleyoak.engine import program
+from hurleyoak.simulation.intervals import margin, wilson
 from hurleyoak.simulation.sharing import POP, Gathered
 from hurleyoak.simulation.sizes import sizes_of
 from hurleyoak.simulation.sweepjobs import Way, Job, Result, load_net, mark_of, read_job, read_result, result_of
@@ -101,6 +102,61 @@ def test_a_row_counts_undecided_and_wrong_runs() -> None:
     alone = row_of("net", "x=9", results[3:])
     assert alone.wrong is None and aligned([alone]).split("\n")[2].split()[5] == "-"
     assert read_csv(csv_text([alone], ""), "table")[0] == [alone]
+
+
+@pytest.mark.parametrize(
+    "found, runs, low, high", [(0, 20, 0.0, 0.161), (1, 10, 0.018, 0.404), (5, 10, 0.237, 0.763), (10, 10, 0.722, 1.0)]
+)
+def test_a_share_lies_in_wilson_s_interval(found: int, runs: int, low: float, high: float) -> None:
+    """Figures of the literature (Newcombe 1998, method 3)."""
+    assert wilson(found, runs) == pytest.approx((low, high), abs=5e-4)
+
+
+def test_a_mean_has_a_margin() -> None:
+    """Student's law: of five numbers 2.776 standard errors."""
+    pytest.importorskip("scipy")
+    assert margin([1.0, 2.0, 3.0, 4.0, 5.0]) == pytest.approx(1.9632, abs=1e-3)
+    assert margin([4.0]) is None
+
+
+def test_rows_come_one_after_the_other() -> None:
+    """Each is there before the next one's runs are made."""
+    words = [POP, "sweep", EPIDEMIC, "x=1", "y=10,200000", "--runs", "40"]
+    with subprocess.Popen(words, stdout=subprocess.PIPE, text=True) as run:
+        assert run.stdout is not None
+        lines = [run.stdout.readline() for _ in range(3)]
+        assert run.poll() is None
+        run.kill()
+    assert lines[0] == "runs\n" and lines[2].split()[1:3] == ["x=1", "y=10"]
+
+
+@pytest.mark.parametrize("jobs", ["1", pytest.param("2", marks=pytest.mark.skipif(not shutil.which("parallel"), reason="GNU parallel is wanted: apt-get install parallel"))])  # fmt: skip
+def test_a_size_without_an_end_is_given_up(jobs: str, tmp_path: Path) -> None:
+    """After three runs, with the usual limit alone; the table and a sentence say so."""
+    endless = tmp_path / "endless.pop"
+    endless.write_text("inputs x: A  y: B\nA + B -> B + C\nB + C -> A + B\nyes A\n")
+    run = pop("sweep", str(endless), "x=0,3", "y=2", "--runs", "5", "--jobs", jobs)
+    rows = [line.split() for line in run.stdout.splitlines()]
+    assert run.returncode == 0 and rows[2][-4:-2] == ["5", "0%"] and rows[3][-4:-2] == ["3", "100%"]
+    assert run.stdout.count("not within") > 4
+    assert "endless: x=3 y=2: given up after 3 of 5 runs, as none came to its end" in run.stdout
+    limited = pop("sweep", str(endless), "x=3", "y=2", "--runs", "5", "--until", "40.5")
+    assert limited.stdout.splitlines()[2].split()[-4:-2] == ["5", "100%"] and "given up" not in limited.stdout
+    assert "not within: a run stopped after 40.5 meetings for each agent" in limited.stdout
+
+
+def test_until_is_by_time_of_each_agent() -> None:
+    listed = pop("sweep", EPIDEMIC, "x=1", "y=9,19", "--runs", "1", "--until", "2.5", "--list").stdout.splitlines()
+    assert ["meetings=25" in listed[0], "meetings=50" in listed[1]] == [True, True]
+    refused = pop("sweep", EPIDEMIC, "x=1", "y=9", "--until", "0")
+    assert refused.returncode == program.USAGE and "`--until` is a number of meetings for each agent" in refused.stderr
+
+
+def test_inputs_of_one_side_are_told() -> None:
+    told = "the predicate is true for all these inputs; on its other side it may take longer"
+    assert told in pop("sweep", EPIDEMIC, "x=1", "y=5..20*2", "--runs", "2").stdout
+    assert told not in pop("sweep", EPIDEMIC, "x=0,1", "y=5", "--runs", "2").stdout
+    assert told not in pop("sweep", EPIDEMIC, "x=1", "y=5", "--runs", "2").stdout
 
 
 def test_runs_of_neighbouring_sizes_have_nothing_in_common() -> None:

@@ -4,14 +4,17 @@ from __future__ import annotations
 import os
 import shlex
 import sys
-from dataclasses import dataclass, replace
+from dataclasses import replace
+from math import ceil
 from pathlib import Path
 from typing import Iterator, Mapping, Sequence
 
 from ...simulation.crowds import counts_of, crowd_words, split_words
 from ..progress import Progress
+from ...simulation.groups import Group, first_jobs, given_up, in_turn, one_sided
 from ...simulation.sharing import POP, Gathered, done_here, journal_of, read_folder, shared
 from ...simulation.graphs import is_by_name
+from ...simulation.limits import CHANGES_ASKED, MEETING_LIMIT
 from ...simulation.sizes import sizes_of
 from ...simulation.sweepjobs import (
     BY_KERNEL,
@@ -25,29 +28,24 @@ from ...simulation.sweepjobs import (
     read_job,
     result_of,
 )
-from ...simulation.table import Row, aligned, csv_text, growths, row_of
+from ...simulation.table import NOT_WITHIN, csv_text, growths, quantiles
 from ...faults import InputFault
 from ...protocol.laws import LAWS_TOLD
+from ...protocol.predicates import value_at
 from ...text.families import member_name
 from ...text.files import STANDARD_INPUT, read_text
 from ...text.membersof import WITH, NoMember, chosen, found_none, meant, members_of
 from ...statuses import DONE, UNDECIDED
 from ...writing import write_text
 from . import JOB_WORD, warn
+from ..sweptrows import SweptRows
 from ..usage import UsageFault
 from ..table.reading import Given, takes
 from .simulate import title_of
 
-SAID = ("--by", "--changes", "--graph", "--meetings", "--runs", "--seed")
-
-
-@dataclass(frozen=True)
-class Group:
-    """A net at one size, and its jobs."""
-
-    net: str
-    crowd: str
-    jobs: list[Job]
+SAID = ("--by", "--changes", "--graph", "--meetings", "--runs", "--seed", "--until")
+USUAL_CHANGES = 10**6
+LIMITS = ("--changes", "--meetings", "--until")
 
 
 def _groups(given: Given) -> list[Group]:
@@ -87,7 +85,7 @@ def _groups_of(given: Given, path: str, member: str, sizes: Sequence[Mapping[str
         path=str(Path(path).absolute()),
         crowd="",
         seed=first,
-        changes=given.whole("--changes"),
+        changes=_changes(given),
         meetings=given.whole("--meetings"),
         predicate=predicate,
         mark=mark_of(loaded),
@@ -98,9 +96,33 @@ def _groups_of(given: Given, path: str, member: str, sizes: Sequence[Mapping[str
     for size in sizes:
         counts = counts_of(loaded.net, [f"{name}={k}" for name, k in size.items()])
         if loaded.meets(counts):
-            crowd = crowd_words(loaded.net, counts)
-            jobs = [replace(job, crowd=crowd, seed=first + i) for i in range(given.whole("--runs"))]
-            yield Group(f"{title_of(path)} {member}".rstrip(), crowd, jobs)
+            crowd, agents = crowd_words(loaded.net, counts), sum(counts) + len(loaded.net.leaves[0].helpers)
+            one = replace(job, crowd=crowd, meetings=_meetings(given, agents))
+            yield Group(
+                net=f"{title_of(path)} {member}".rstrip(),
+                crowd=crowd,
+                agents=agents,
+                value=None if loaded.predicate is None else value_at(loaded.whole_tree(), counts),
+                gives_up=not given.named.intersection(LIMITS),
+                jobs=[replace(one, seed=first + i) for i in range(given.whole("--runs"))],
+            )
+
+
+def _changes(given: Given) -> int:
+    """After how many changes a run stops: `--until` alone has the limit of meetings."""
+    usual = CHANGES_ASKED if given.has("--until") else USUAL_CHANGES
+    return given.whole("--changes") if given.has("--changes") else usual
+
+
+def _meetings(given: Given, agents: int) -> int:
+    """After how many meetings a run of so many agents stops; 0 for no limit."""
+    most = given.whole("--meetings")
+    if not given.has("--until"):
+        return most
+    until = given.number("--until")
+    if not 0 < until <= MEETING_LIMIT / agents:
+        raise UsageFault(f"`--until` is a number of meetings for each agent above 0, found {given.text('--until')}")
+    return min(ceil(until * agents), most or MEETING_LIMIT)
 
 
 def _graph(given: Given) -> str:
@@ -144,29 +166,30 @@ def _print_jobs(jobs: list[Job], chunk: int) -> None:
         _print_as_given(shlex.join([str(POP), "sweep", JOB_WORD, *some]))
 
 
-def _rows(groups: list[Group], gathered: Gathered) -> list[Row]:
-    rows = []
-    for group in groups:
-        results = [gathered.found[name] for name in map(Job.text, group.jobs) if name in gathered.found]
-        if results:
-            rows.append(row_of(group.net, group.crowd, results))
-    return rows
-
-
-def _carry_out(given: Given, jobs: list[Job], gathered: Gathered) -> None:
-    progress = Progress()
+def _carry_out(given: Given, groups: list[Group], gathered: Gathered, rows: SweptRows) -> None:
+    progress, many = Progress(), sum(len(group.jobs) for group in groups)
 
     def told() -> None:
-        progress(lambda: f"{len(gathered.found):,} of {len(jobs):,} runs")
+        rows.print(progress.end)
+        progress(lambda: f"{len(gathered.found):,} of {many:,} runs")
 
     places, hosts = given.whole("--jobs"), given.text("--hosts")
     try:
         if places > 1 or hosts:
-            shared(jobs, places, hosts, gathered, told)
+            shared(first_jobs(groups), places, hosts, gathered, told)
+            shared([job for group in groups for job in group.missing(gathered)], places, hosts, gathered, told)
         else:
-            done_here(gathered.missing(jobs), gathered, told)
+            done_here(in_turn(groups, gathered), gathered, told)
     finally:
         progress.end()
+
+
+def _stopped(given: Given) -> str:
+    """Where a run stopped that came to no end."""
+    said = [f"{_changes(given):,} changes"] if given.has("--changes") or not given.has("--until") else []
+    said += [f"{given.whole('--meetings'):,} meetings"] if given.whole("--meetings") else []
+    said += [f"{given.text('--until')} meetings for each agent"] if given.has("--until") else []
+    return f"{NOT_WITHIN}: a run stopped after {' or '.join(said)}"
 
 
 def run(given: Given) -> int:
@@ -183,18 +206,21 @@ def run(given: Given) -> int:
     if given.has("--list"):
         _print_jobs(gathered.missing(jobs), given.whole("--chunk"))
         return DONE
+    rows = SweptRows(groups, gathered)
     if gather is None and journal is not None:
         with journal_of(journal, gathered):
-            _carry_out(given, jobs, gathered)
+            _carry_out(given, groups, gathered, rows)
     elif gather is None:
-        _carry_out(given, jobs, gathered)
-    rows = _rows(groups, gathered)
-    missing = len(gathered.missing(jobs))
-    if not rows:
+        _carry_out(given, groups, gathered, rows)
+    made = rows.finish()
+    missing = sum(len(group.missing(gathered)) for group in groups)
+    if not made:
         raise InputFault(f"none of the {len(jobs)} runs has a result")
     if csv is not None:
-        write_text(csv, csv_text(rows, _told(given)))
-    text = "\n".join([aligned(rows), "", *growths(rows), "measured, and not proved"])
+        write_text(csv, csv_text(made, _told(given)))
+    told = [*growths(made), *given_up(groups, gathered), *one_sided(groups)]
+    told += [_stopped(given)] if any(row.undecided for row in made) else []
+    text = "\n".join([quantiles(made), "", *told, "measured, and not proved"])
     print(text.replace("meetings to ", "rounds to ") if given.has("--rounds") else text)
     if missing:
         print(

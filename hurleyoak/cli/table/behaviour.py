@@ -116,8 +116,9 @@ BEHAVIOUR = (
         (
             whole("--runs", "runs of each size", 20, 1, RUN_LIMIT),
             whole("--seed", "the first run's seed", 0, 0, SEED_LIMIT - RUN_LIMIT),
-            whole("--changes", "stops a run after N changes", 10**6, 1, CHANGES_ASKED),
+            whole("--changes", "stops a run after N changes (without `--until` 1,000,000)", None, 1, CHANGES_ASKED),
             whole("--meetings", "stops a run after N meetings", 0, 0, MEETING_LIMIT),
+            number("--until", "stops a run after N meetings for each agent", None),
             GRAPH,
             ROUNDS,
             text("--predicate", "compares the output with its value"),
