@@ -29,7 +29,7 @@ _pop() {
         refute) options='--agents --seconds --write --with -o --help' ;;
         simulate) options='--seed --until --at --from --volume --graph --rounds --map --changes --predicate --trace --kernel --every --runs --jobs --with -o --help' ;;
         exact) options='--agents --after --fractions --volume --top --predicate --with -o --help' ;;
-        sweep) options='--runs --seed --changes --meetings --graph --rounds --predicate --by --jobs --hosts --journal --list --chunk --gather --csv --with -o --help' ;;
+        sweep) options='--runs --seed --changes --meetings --until --graph --rounds --predicate --by --jobs --hosts --journal --list --chunk --gather --csv --with -o --help' ;;
         plot) options='-o --text --states --log --from --to --size --by --of --ode --phase --over --title --with --help' ;;
         draw) options='-o --dot --text --title --with --help' ;;
         serve) options='--port --help' ;;
