@@ -30,6 +30,8 @@ class Way(Enum):
     QUICK = "those of the workbench, in which callers tell the answer and tokens join"
 
 
+# the ways by their names, as the page and the library take them
+NAMES = {way.name.lower(): way for way in Way}
 WORDS = {Way.PLAIN: ["compile"], Way.FLOCKS: ["compile", "--flocks"], Way.SUCCINCT: ["compile", "--succinct"]}
 CALLS = {Way.PLAIN: "compile", Way.FLOCKS: "compile_flocks", Way.SUCCINCT: "compile_succinct"}
 BY_THEOREM = "made by the program: every net of `{}` in `comp_net` is right, by the theorem `Compiles.right`"

@@ -5,6 +5,7 @@ from numbers import Real
 from operator import index
 from typing import TYPE_CHECKING, Iterable, Mapping, Sequence
 
+from ..engine.compiling import NAMES, Way
 from ..faults import InputFault
 from ..simulation.carrying import Limits
 from ..simulation.limits import CHANGES_ASKED, MEETING_LIMIT, SEED_LIMIT
@@ -115,6 +116,18 @@ def predicate(text: str) -> tuple[str, list[str]]:
         raise InputFault(f"`{text}` has no variable; a predicate has one at least, as in `x < 3`")
     read_given(form, names)
     return form, names
+
+
+def way(name: object, helpers: bool) -> Way:
+    """Whose net is wanted of a predicate; without helpers a succinct or a quick one."""
+    found = NAMES.get(name) if isinstance(name, str) else None
+    if found is None:
+        raise InputFault(f"`way` is one of {', '.join(NAMES)}, found {name!r}")
+    if helpers or found in (Way.SUCCINCT, Way.QUICK):
+        return found
+    if found is Way.SMALLEST:
+        return Way.SUCCINCT
+    raise InputFault(f"`helpers=False` is for succinct and quick nets, and `way` is {name!r}")
 
 
 def one_protocol(text: str, name: str) -> Loaded:

@@ -7,7 +7,7 @@ from typing import TYPE_CHECKING, Any, Iterable, Mapping
 from ..compiler.drafts import NotBuilt as NoLeaf
 from ..compiler.whole import Helpers
 from ..engine import program
-from ..engine.compiling import Way, make_bundle
+from ..engine.compiling import make_bundle
 from ..engine.places import BY_SCRIPT
 from ..engine.program import NoProgram
 from ..faults import AskFault, InputFault
@@ -329,18 +329,17 @@ def load(path: str) -> Protocol:
     return Protocol(asked.one_file(path))
 
 
-def compile(predicate: str, helpers: bool = True) -> Protocol:
+def compile(predicate: str, helpers: bool = True, way: str = "smallest") -> Protocol:
     """A protocol for a predicate, with its proof: the smaller of the program's net and a succinct one, certified.
 
-    Without helpers where `helpers` is false; InputFault where there is none within the limits.
+    Or `way` says which: "quick", "succinct", "plain" or "flocks". Without helpers where `helpers` is false; InputFault
+    where there is none within the limits.
     """
     _ready()
     form, names = asked.predicate(predicate)
+    wanted = asked.way(way, helpers)
     try:
-        if helpers:
-            made = make_bundle(names, form)
-        else:
-            made = make_bundle(names, form, Way.SUCCINCT, Helpers.NONE)
+        made = make_bundle(names, form, wanted, Helpers.ANY if helpers else Helpers.NONE)
     except NoLeaf as why:
         raise InputFault(str(why)) from None
     if made.answer.status != program.DONE:

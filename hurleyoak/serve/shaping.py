@@ -8,7 +8,7 @@ from typing import Any
 
 from ..compiler.drafts import NotBuilt
 from ..engine import program
-from ..engine.compiling import NotCertified, Way, make_bundle
+from ..engine.compiling import NAMES, NotCertified, make_bundle
 from ..proof.bundles import bundle_of
 from ..proof.joining import Lost, joined, negated
 from ..show.netdrawing import DRAWN_STATES, arrows, met_text, rows_of, starts
@@ -26,7 +26,6 @@ from ..show.values import answer_value
 DRAWN_SECONDS = 20.0
 GLYPH, LETTER = 0.11, 0.085  # inches of a letter of a state's name, and of a label, at most
 POINTS = 72
-WAYS = {"smallest": Way.SMALLEST, "succinct": Way.SUCCINCT, "plain": Way.PLAIN, "flocks": Way.FLOCKS}
 PROGRAM_SAYS = "the program says: "
 
 
@@ -135,14 +134,14 @@ def net_task(request: Request, tell: Tell) -> dict[str, Any]:
 
 
 def compile_task(request: Request, tell: Tell) -> dict[str, Any]:
-    """A predicate compiled to a net with its proof: the program's own, or a succinct one; the program then checks
-    it."""
+    """A predicate compiled to a net with its proof: the program's own, a succinct one or a quick one; the program
+    then checks it."""
     text = " ".join(text_in(request, "of").split())
     if not text:
         raise Fault(["a predicate is missing, as in `x - y < 3`"])
-    way = WAYS.get(text_in(request, "way", "smallest"))
+    way = NAMES.get(text_in(request, "way", "smallest"))
     if way is None:
-        raise Fault([f"`way` is one of {', '.join(WAYS)}"])
+        raise Fault([f"`way` is one of {', '.join(NAMES)}"])
     form, names = in_form(text, None)
     try:
         made = make_bundle(names, form, way)

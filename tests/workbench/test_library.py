@@ -200,6 +200,13 @@ def test_what_the_program_says() -> None:
     assert hurleyoak.compile("x >= 1000", helpers=False).net.leaves[0].helpers == ()
     with pytest.raises(hurleyoak.InputFault):
         hurleyoak.compile("x - y < 1000", helpers=False)
+    quick = hurleyoak.compile("3x - y < 100", way="quick")
+    assert quick.check().tame and quick.simulate(x=30, y=10).right
+    assert hurleyoak.compile("x >= 8", way="plain").net.leaves != hurleyoak.compile("x >= 8", way="flocks").net.leaves
+    with pytest.raises(hurleyoak.InputFault, match="`way` is one of smallest, "):
+        hurleyoak.compile("x >= 9", way="fast")
+    with pytest.raises(hurleyoak.InputFault, match="for succinct and quick nets"):
+        hurleyoak.compile("x >= 9", helpers=False, way="plain")
     assert hurleyoak.explain(MAJORITY).startswith("#")
 
 

@@ -516,7 +516,9 @@ def test_great_constants_are_compiled(server: Server) -> None:
     done = server.done("compile", of="x - y < 1000000")
     assert done["answer"]["good"] and not done["own"] and sum(states for states, _ in done["leaves"]) < 100
     assert server.done("compile", of="x >= 2", way="plain")["own"]
-    assert server.fault("compile", of="x >= 2", way="quick")
+    assert server.fault("compile", of="x >= 2", way="slow")
+    quick = server.done("compile", of="x - y < 100", way="quick")
+    assert not quick["own"] and quick["answer"]["line"].startswith("certified ")
 
 
 @needs_program

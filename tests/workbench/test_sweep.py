@@ -121,7 +121,7 @@ def test_a_mean_has_a_margin() -> None:
 
 def test_rows_come_one_after_the_other() -> None:
     """Each is there before the next one's runs are made."""
-    words = [POP, "sweep", EPIDEMIC, "x=1", "y=10,200000", "--runs", "40"]
+    words = [str(POP), "sweep", EPIDEMIC, "x=1", "y=10,200000", "--runs", "40"]
     with subprocess.Popen(words, stdout=subprocess.PIPE, text=True) as run:
         assert run.stdout is not None
         lines = [run.stdout.readline() for _ in range(3)]

@@ -9,13 +9,14 @@ import {store} from "./store.js";
 const PREVIEW = 40; // lines
 const WAYS = {
   smallest: "the net with the fewest states",
+  quick: "a quick net, whatever its size",
   succinct: "a succinct net, for great constants",
   plain: "the program's own net",
   flocks: "the program's own, powers of 2 by flocks",
 };
 const ABOUT =
   "What the protocol is to compute. The program makes a net of it, with a proof; of great constants the workbench " +
-  "does, and the program certifies it.";
+  "does, and quick nets as well, and the program certifies them.";
 const IDEAS = ["x >= y", "x - y < 3", "2x + y = 1 mod 3", "x - y < 1000000", "x > 2 and y = 0 mod 2"];
 
 export class Compile {
