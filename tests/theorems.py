@@ -141,6 +141,7 @@ TOP_CRATES = (
 BELOW_CHECK = (
     ("pop_tool", "Told", "CheckTold"),
     ("pop_tool", "Told", "ShowTold"),
+    ("pop_tool", "ShownText", "ShowTells"),
     ("pop_tool", "Headline", "StableSays"),
     ("pop_tool", "Runs", "IsLastLine"),
     ("pop_tool", "Runs", "IsAllowedRun"),
@@ -154,6 +155,7 @@ BELOW_CHECK = (
 PROOFS = frozenset({"ValidProof", "ValidStableProof", "IsPartFile", "IsStableProofWithin"})
 BOUNDS = frozenset({"ComputesAlmostSurely", "ComputesInCubicTime", "ChangesAtMost", "AreTameEach"})
 COMPILED = frozenset({"net_with", "built_bound", "IsWritable", "bundle_line"})
+RIGHT = frozenset({"IsStablyRight", "ComputesInCubicTime"})
 WORDS = frozenset({"meaning_of"})
 REASONS = frozenset({"refusal_text", "rejected_text"})
 WIDTH = 118  # of a document's lines
@@ -458,8 +460,8 @@ class Topic:
     told: str
     fields: tuple[str, ...]
     but: frozenset[str]
-    # a law that the list begins with, and with which it stands alone
-    law: Key | None = None
+    # the list stands on no other one, but for the lines that come before each
+    alone: bool = False
 
 
 TOPICS = (
@@ -494,14 +496,14 @@ TOPICS = (
     ),
     Topic(
         "To believe what `show` prints",
-        """Which net, predicate and proof have the printed lines, if you have the text and not the file. Neither JSON nor
-        the grammar of predicates is in this list. The law `text_tells` says that no other net or predicate has these
-        lines. Two proofs with these lines differ at most in their trees, and in which of several equal moves a layer
-        lists. By the field `shown` of `Headline` a text of `show` has the lines of a bundle with a valid proof, and its
-        net is right. What that means stands in the lists above.""",
-        (),
-        PROOFS,
-        ("cert_show", "TextTells", "TextTells"),
+        """Which net is right for which predicate, if you have the text and not the file. Neither JSON nor the grammar of
+        predicates is in this list. The text has the lines of `check`, and behind them those of a net, a predicate and a
+        proof. No other net or predicate has these lines. Two proofs with these lines differ at most in their trees, and
+        in which of several equal moves a layer lists. A net that is certified computes its predicate (`Computes`). Left
+        out is what `stable` and `tame` say (`IsStablyRight`, `ComputesInCubicTime`): the lists above have it.""",
+        ("show_tells",),
+        PROOFS | RIGHT,
+        alone=True,
     ),
     Topic(
         "To believe a run",
@@ -534,15 +536,16 @@ TOPICS = (
 
 def topic_lists(rests: Rests) -> Iterator[str]:
     """The lists of all topics, each without what stands in those above it."""
-    above = {ANSWERED, *WAY}
+    first = {ANSWERED, *WAY}
+    above = set(first)
     for topic in TOPICS:
         but = topic.but | WORDS | REASONS
-        if topic.law:
-            told = f"{topic.told} It begins with `{topic.law[2]}`, and needs no other list."
-            yield from reading_list(topic.title, wrapped(told), rests.beneath([topic.law], but), rests, but)
-            continue
         keys = rests.beneath(named_by(topic.fields, rests), but)
         told = f"{topic.told} It begins with {listed(topic.fields)} of `Headline`"
+        if topic.alone:
+            told += ", and needs no other list."
+            yield from reading_list(topic.title, wrapped(told), keys - first, rests, but, frozenset(first))
+            continue
         told += ", and stands on the lists above." if above & keys else "."
         yield from reading_list(topic.title, wrapped(told), keys - above, rests, but, frozenset(above))
         above |= keys

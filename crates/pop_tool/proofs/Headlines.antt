@@ -33,6 +33,8 @@ use Rattle.pop_tool.proofs.RunHeadline.{run_says}
 use Rattle.pop_tool.proofs.CompileHeadline.{compile_says}
 use Rattle.pop_tool.proofs.Told.{check_told, show_told, run_told, compile_told, settle_told}
 use Rattle.pop_tool.specs.Told.{SaysRefused, SaysWhyNot, CheckTold, ShowTold}
+use Rattle.pop_tool.specs.ShownText.{ShowTells}
+use Rattle.pop_tool.proofs.ShowTells.{show_tells}
 use Rattle.pop_tool.proofs.SettleHeadline.{settle_says}
 use Rattle.pop_tool.proofs.ReplayHeadline.{held_given, replay_only}
 use Rattle.pop_tool.proofs.HeldText.{held_read, read_held}
@@ -124,6 +126,11 @@ module _ (words : List (List ℕ)) (input : List ℕ) (output : Output) (answer 
       let a = given Show is in
       subst (λ (o : Output). ShowTold o.text (status_of o.ending)) (sym a.2) (show_told input a.0 a.1)
 
+  show_tells_headline : meaning_of words ≡ Ok Show → ShowTells output.text (status_of output.ending)
+  show_tells_headline is =
+      let a = given Show is in
+      subst (λ (o : Output). ShowTells o.text (status_of o.ending)) (sym a.2) (show_tells input a.0 a.1)
+
   run_told_headline : (kind : RunKind) (spec : RunSpec) → meaning_of words ≡ Ok (run_command kind spec) → WasRun (status_of output.ending) ⊎ SaysWhyNot output.text (status_of output.ending)
   run_told_headline kind spec is =
       let a = given (run_command kind spec) is in
@@ -164,6 +171,7 @@ module _ (words : List (List ℕ)) (input : List ℕ) (output : Output) (answer 
         show = show_headline;
         shown = shown_headline;
         show_told = show_told_headline;
+        show_tells = show_tells_headline;
         run = run_headline Whole;
         watch = run_headline Watched;
         run_told = run_told_headline Whole;

@@ -24,5 +24,8 @@ mod CompileHeadline
 mod CompileChecked
 mod SettleHeadline
 mod Told
+mod FilePreds
+mod ShownLines
+mod ShowTells
 mod Headlines
 pub mod Complete

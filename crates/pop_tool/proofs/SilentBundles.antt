@@ -31,19 +31,19 @@ pub file_stable : (bundle : StableBundle) (d : Data) → IsStableFile bundle d �
 file_stable bundle d file valid = stable_sound bundle.net bundle.pred bundle.proof (file_net bundle d file) (file_preds bundle d file) valid
 
 module _ (bundle : StableBundle) (silent : is_silent bundle.proof ≡ true) where
-  same : of_silent (silent_in bundle) ≡ bundle.proof
-  same = silent_proofs.same bundle.proof silent
+  pub silent_same : of_silent (silent_in bundle) ≡ bundle.proof
+  silent_same = silent_proofs.same bundle.proof silent
 
   pub silently_valid : HasValidProof bundle → ValidProof bundle.net bundle.pred (silent_in bundle)
-  silently_valid v = (silent_proofs.valid bundle.net bundle.pred (silent_in bundle)).0 (subst (ValidStableProof bundle.net bundle.pred) (sym same) v)
+  silently_valid v = (silent_proofs.valid bundle.net bundle.pred (silent_in bundle)).0 (subst (ValidStableProof bundle.net bundle.pred) (sym silent_same) v)
 
   pub stably_valid : ValidProof bundle.net bundle.pred (silent_in bundle) → HasValidProof bundle
-  stably_valid v = subst (ValidStableProof bundle.net bundle.pred) same ((silent_proofs.valid bundle.net bundle.pred (silent_in bundle)).1 v)
+  stably_valid v = subst (ValidStableProof bundle.net bundle.pred) silent_same ((silent_proofs.valid bundle.net bundle.pred (silent_in bundle)).1 v)
 
   silent_preds : (d : Data) → IsStableFile bundle d → ArePreds bundle.net (silent_in bundle)
   silent_preds d file i part k =
       file_preds bundle d file i (Silent part)
-      (subst (λ (proof : StableProof). slice_get proof.leaves i ≡ Some (Silent part)) same (silent_listed (silent_in bundle).leaves i part k))
+      (subst (λ (proof : StableProof). slice_get proof.leaves i ≡ Some (Silent part)) silent_same (silent_listed (silent_in bundle).leaves i part k))
 
   -- and computes the predicate
   pub file_right : (d : Data) → IsStableFile bundle d → HasValidProof bundle → IsRight bundle.net bundle.pred (silent_in bundle)

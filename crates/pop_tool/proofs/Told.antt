@@ -101,7 +101,7 @@ done_zero status done = ap code_of done
 
 -- ---- check
 
-tame_begins : (k : ℕ) (tame : Bool) (more : List ℕ) → BeginsCertified (certified_lines k tame ++ more)
+pub tame_begins : (k : ℕ) (tame : Bool) (more : List ℕ) → BeginsCertified (certified_lines k tame ++ more)
 tame_begins k true more = (k, ended (codes "tame") ++ more, append_assoc (ended (certified_text k)) (ended (codes "tame")) more)
 tame_begins k false more = (k, more, refl)
 

@@ -59,6 +59,7 @@ use Rattle.tool_nets.specs.Compile.{bundle_line, IsCompiled}
 use Rattle.pop_tool.specs.Outcome.{IsAnswered}
 use Rattle.pop_tool.specs.Runs.{IsLastLine, IsAllowedRun}
 use Rattle.pop_tool.specs.Told.{SaysRefused, SaysWhyNot, CheckTold, ShowTold}
+use Rattle.pop_tool.specs.ShownText.{ShowTells}
 
 -- the input, within its limit, is one line, which is the file of this bundle
 pub record IsBundleLine (input : List ℕ) (bundle : StableBundle) : Type 0 where
@@ -290,6 +291,8 @@ pub record Headline (words : List (List ℕ)) (input text : List ℕ) (status : 
   -- what `show` prints shows the very net and predicate that are certified
   pub shown : meaning_of words ≡ Ok Show → status ≡ Done → IsShownLine input text
   pub show_told : meaning_of words ≡ Ok Show → ShowTold text status
+  -- the text alone tells which net is right for which predicate
+  pub show_tells : meaning_of words ≡ Ok Show → ShowTells text status
   pub run : (spec : RunSpec) → meaning_of words ≡ Ok (Run spec) → WasRun status → RunSays Whole spec input text status
   pub watch : (spec : RunSpec) → meaning_of words ≡ Ok (Watch spec) → WasRun status
       → RunSays Watched spec input text status

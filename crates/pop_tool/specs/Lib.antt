@@ -7,6 +7,7 @@ pub mod Written
 pub mod OneAnswer
 pub mod Runs
 pub mod Told
+pub mod ShownText
 pub mod Headline
 pub mod ReplayHeld
 pub mod CompileCertified
