@@ -13,9 +13,14 @@ from ..proof.bundles import Bundle, LeafGoals, LeafProof, Part
 from .flaws import Flaw
 from .howfar import Going
 from .goaltasks import leaf_tasks, look_for_goals
+from .larger import larger_flaw
+from .limits import clock
+from .whole import system_of
 from .jobs import FALSE, FLAW, GOAL_FALSE, GOAL_TRUE, LAYERS, TRUE, WHOLE, Result, Task, TaskKind, Why, work
 from .processes import results
 
+LARGER_SECONDS = 4.0  # for larger crowds where no proof was found: at most this part of all
+LARGER_PART = 15
 ORDER = (
     Why.MISSES,
     Why.RESTLESS,
@@ -139,6 +144,8 @@ def find(
     came of each, and `going` how far each is.
     """
     start = time.time()
+    spare = min(LARGER_SECONDS, seconds / LARGER_PART)
+    seconds -= spare
     end = time.monotonic() + seconds
     if loaded.predicate is not None and (loaded.parts is None or predicates_differ(loaded)):
         tried = work(whole_task(loaded, seconds, small))
@@ -177,10 +184,18 @@ def find(
             out.failures = []
         elif looked.failure is not None:
             out.failures.insert(0, looked.failure)
+    if not out.is_flawed and out.failures:
+        # (a search that failed at once isn't made a long one)
+        out.flaw = _larger(loaded, min(spare, (time.time() - start) / 2))
     if not out.is_flawed and not out.failures:
         out.bundle = _assembled(loaded, out)
     out.seconds = time.time() - start
     return out
+
+
+def _larger(loaded: Loaded, seconds: float) -> Flaw | None:
+    """A flaw of many agents, at an input that meets what is assumed."""
+    return larger_flaw(system_of(loaded.net), loaded.whole_tree(), clock() + seconds, loaded.meets)
 
 
 def _done(tasks: list[Task], coming: Iterator[Result], came: Callable[[Result], None] | None) -> Outcome:

@@ -61,7 +61,7 @@ class Words:
             for q in here[i:]:
                 if p == q and crowd[p] < 2:
                     continue
-                for t in self._of(p, q):
+                for t in self.of(p, q):
                     new = list(crowd) + [0] * (len(self.words) - len(crowd))
                     a, b, r, s = self.moves[t]
                     new[a] -= 1
@@ -70,7 +70,8 @@ class Words:
                     new[s] += 1
                     yield t, _trimmed(new)
 
-    def _of(self, p: int, q: int) -> list[int]:
+    def of(self, p: int, q: int) -> list[int]:
+        """The moves for two words."""
         known = self._table.get((p, q))
         if known is None:
             made: dict[tuple[int, int], int] = {}

@@ -29,9 +29,10 @@ computes x < {m}
 # no task ever ends by itself, and the time that is given doesn't matter
 ENDLESS = """
 import sys, time
-from hurleyoak.search import processes
+from hurleyoak.search import finding, processes
 from hurleyoak.__main__ import start
 processes.work = lambda task: time.sleep(600)
+finding.larger_flaw = lambda *given: None
 sys.argv[1:] = {words!r}
 sys.exit(start())
 """
@@ -165,10 +166,10 @@ def test_a_family_keeps_its_seconds(tmp_path: Path) -> None:
         text=True,
         check=False,
     )
-    assert 6 <= time.monotonic() - start < SOON and run.returncode == 4
+    assert 5.5 <= time.monotonic() - start < SOON and run.returncode == 4
     lines = run.stdout.splitlines()[1:]
     assert [line.split()[-2:] for line in lines] == [["not", "found"]] * 3
-    assert all(1.9 <= float(line.split()[3]) < 4 for line in lines)
+    assert all(1.8 <= float(line.split()[3]) < 4 for line in lines)
 
 
 @needs_program
@@ -184,6 +185,6 @@ def test_a_family_that_is_long_keeps_its_seconds(tmp_path: Path) -> None:
         text=True,
         check=False,
     )
-    assert 3 <= time.monotonic() - start < SOON and run.returncode == 4, run.stderr
+    assert 2.8 <= time.monotonic() - start < SOON and run.returncode == 4, run.stderr
     lines = run.stdout.splitlines()[1:]
     assert len(lines) == 899 and lines[0].endswith("not found") and lines[-1].endswith("not tried: the time was up")

@@ -2,6 +2,7 @@
 from __future__ import annotations
 
 import random
+import re
 from dataclasses import replace
 from pathlib import Path
 
@@ -15,6 +16,7 @@ from hurleyoak.proof.entries import entries_of
 from hurleyoak.proof.facts import Space
 from hurleyoak.text.files import load
 from hurleyoak.text.loaded import LoadedNet
+from hurleyoak.text.membersof import load_member
 from hurleyoak.protocol.nets import Leaf, Net, pair
 from hurleyoak.protocol.predicatereader import read_predicate
 from hurleyoak.protocol.predicates import Predicate, value_at
@@ -41,7 +43,10 @@ from hurleyoak.search import howfar  # noqa: E402
 from hurleyoak.search.finding import Outcome, drafts_of, find, tasks_of  # noqa: E402
 from hurleyoak.search.jobs import FLAW, work  # noqa: E402
 from hurleyoak.proof.items import Cases, fact_of  # noqa: E402
+from hurleyoak.search.larger import larger_flaw  # noqa: E402
 from hurleyoak.search.layers import LayerFinder  # noqa: E402
+from hurleyoak.search.limits import clock  # noqa: E402
+from hurleyoak.search.whole import system_of  # noqa: E402
 from hurleyoak.search.least import least_groups  # noqa: E402
 from hurleyoak.search.smt import NONE, layers_by_smt  # noqa: E402
 from hurleyoak.search.trees import Entered  # noqa: E402
@@ -177,6 +182,41 @@ def test_each_example_is_found_again() -> None:
             for part, known in zip(again.proof, bundle.proof):
                 assert isinstance(part, LeafProof) and isinstance(known, LeafProof)
                 assert len(part.layers) <= len(known.layers) + 1
+
+
+WRAPPING = """family   w in 20..200
+inputs   x: c1  y: c0
+for i in 1..w-1, j in i..w-1
+  c{i} + c{j} -> c{(i+j)%w} + c0
+for i in 5..w-1
+  c{i} + c0 -> c{i} + y0
+for i in 1..4
+  c{i} + y0 -> c{i} + c0
+c0 + y0 -> c0 + c0
+yes      [c{i} for i in 5..w-1] y0
+computes x >= 5
+"""
+
+
+@needs_program
+@pytest.mark.parametrize("command", ["find", "refute"])
+def test_a_flaw_of_many_agents_is_found(command: str, tmp_path: Path) -> None:
+    """A counter that begins anew is right for fewer agents; the program plays what is told."""
+    file = tmp_path / "wrapping.pop"
+    file.write_text(WRAPPING)
+    run = pop(command, str(file), "--with", "w=40", "--seconds", "15")
+    told = run.stdout + run.stderr
+    assert run.returncode == 3 and "at x=40 y=0 the predicate `x >= 5` is true" in told, told[:500]
+    assert "the end: 40 c0\n" in told
+
+
+@pytest.mark.parametrize("wraps", [23, 100])
+def test_larger_crowds_are_walked(wraps: int) -> None:
+    loaded = load_member(WRAPPING, {"w": wraps}, "x")
+    found = larger_flaw(system_of(loaded.net), loaded.whole_tree(), clock() + 60)
+    assert found is not None and found.counts == (wraps, 0) and found.kind == WRONG_KIND
+    case = p.flock(5)
+    assert larger_flaw(system_of(case.net), read_predicate(case.predicate, case.net.names), clock() + 0.5) is None
 
 
 def test_two_processes_find_the_same() -> None:

@@ -12,6 +12,7 @@ from .find import NOT_FOUND, show_flaw
 from .inputs import loaded_of
 
 EVERY = 0.5  # seconds between two progress lines
+LARGER_PART = 0.1  # of the time, where no number of agents is given: random ways of larger crowds
 
 
 class _Progress:
@@ -45,7 +46,8 @@ def run(given: Given) -> int:
     loaded = loaded_of(given)
     tree = loaded.whole_tree()
     from ...search.explore import explore
-    from ...search.limits import ending
+    from ...search.larger import larger_flaw
+    from ...search.limits import clock, ending
     from ...search.whole import system_of
 
     agents = given.whole("--agents") if given.has("--agents") else None
@@ -54,8 +56,12 @@ def run(given: Given) -> int:
         raise UsageFault(f"`--agents` is {least} at least: a crowd of this net has {AGENT_LEAST} agents, or more")
     progress = _Progress()
     seconds = given.number("--seconds")
+    system = system_of(loaded.net)
     with ending(seconds):
-        flaw, tried = explore(system_of(loaded.net), tree, agents, seconds, progress, loaded.meets)
+        in_full = seconds if agents is not None else seconds * (1 - LARGER_PART)
+        flaw, tried = explore(system, tree, agents, in_full, progress, loaded.meets)
+        if flaw is None and agents is None:
+            flaw = larger_flaw(system, tree, clock() + seconds * LARGER_PART, loaded.meets)
     progress.end()
     if flaw is not None:
         return show_flaw(loaded, flaw, given.text("--write"))
