@@ -14,16 +14,16 @@ author.
 from __future__ import annotations
 
 from ..faults import InputFault as InputFault
-from .protocols import NotBuilt as NotBuilt
 from .protocols import Protocol as Protocol
-from .protocols import check as check
-from .protocols import compile as compile
-from .protocols import explain as explain
-from .protocols import find as find
-from .protocols import load as load
-from .protocols import refute as refute
-from .protocols import simulate as simulate
-from .protocols import sweep as sweep
+from .ready import NotBuilt as NotBuilt
+from .calls import check as check
+from .calls import compile as compile
+from .calls import explain as explain
+from .calls import find as find
+from .calls import load as load
+from .calls import refute as refute
+from .calls import simulate as simulate
+from .calls import sweep as sweep
 from .results import Found as Found
 from .results import Refuted as Refuted
 from .results import Run as Run

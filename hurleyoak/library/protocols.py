@@ -4,12 +4,7 @@ from __future__ import annotations
 from html import escape
 from typing import TYPE_CHECKING, Any, Iterable, Mapping
 
-from ..compiler.drafts import NotBuilt as NoLeaf
-from ..compiler.whole import Helpers
 from ..engine import program
-from ..engine.compiling import make_bundle
-from ..engine.places import BY_SCRIPT
-from ..engine.program import NoProgram
 from ..faults import AskFault, InputFault
 from ..limits import AGENT_LEAST
 from ..protocol.nets import Net
@@ -19,7 +14,7 @@ from ..simulation.carrying import carry_out
 from ..simulation.kernelled import KernelRun
 from ..simulation.kernelled import carry_out as carry_out_by_kernel
 from ..simulation.crowds import counts_of, crowd_words
-from ..simulation.curves import Curve, Recorder
+from ..simulation.curves import Recorder
 from ..simulation.seeds import seed_of
 from ..simulation.simulation import AGENT_LIMIT, Simulation
 from ..simulation.sweepjobs import BY_SIMULATE, mark_of
@@ -29,6 +24,8 @@ from ..text.relaxed import in_form
 from ..text.writer import loaded_text
 from . import asked
 from .asked import Size
+from .ready import needs_program
+from .runs import run_of
 from .results import Found, Refuted, Run, Runs, Table, Verdict
 
 if TYPE_CHECKING:
@@ -36,20 +33,6 @@ if TYPE_CHECKING:
 
 SECONDS, SMALLER, AGENTS, RUNS = 60.0, 4.0, 6, 20
 GIVEN = "the text"
-
-
-class NotBuilt(NoProgram):
-    """The proved program isn't there: `bin/pop build` proves and builds it, or POP_MAIN names one."""
-
-
-def _ready() -> None:
-    """NotBuilt where the program would have to be built first."""
-    try:
-        found = program.program_path()
-    except NoProgram as fault:
-        raise NotBuilt(str(fault)) from None
-    if found == str(BY_SCRIPT):
-        raise NotBuilt("the proved program isn't built: `bin/pop build` proves and builds it, in about half an hour")
 
 
 class Protocol:
@@ -101,12 +84,12 @@ class Protocol:
 
     def check(self) -> Verdict:
         """What the proved program says of the proof; InputFault where there is none."""
-        _ready()
+        needs_program()
         return _verdict(program.check(strict_bundle(self._loaded).line()))
 
     def find(self, seconds: float = SECONDS, jobs: int | None = None) -> Found:
         """Looks for a proof, which the program certifies, and for a counterexample, which it plays."""
-        _ready()
+        needs_program()
         from ..search.finding import find
         from ..search.processes import processors
         from ..show.telling import failure_told, left_out_told
@@ -127,7 +110,7 @@ class Protocol:
     def refute(self, agents: int = AGENTS, seconds: float = SECONDS) -> Refuted | None:
         """A counterexample among the inputs of up to so many agents, played by the program; None where none was found
         in that time, InputFault where no input was tried."""
-        _ready()
+        needs_program()
         from ..search.explore import explore
         from ..search.limits import ending
         from ..search.whole import system_of
@@ -183,7 +166,7 @@ class Protocol:
             raise InputFault("the kernel makes plain runs from counts of variables")
         if chosen is None or events or volume is not None or is_placed or has_more(self._loaded, until):
             places = (graph, rounds)
-            return _run(*modelled(self._loaded, chosen, start, seed, until, changes, events, volume, places))
+            return run_of(*modelled(self._loaded, chosen, start, seed, until, changes, events, volume, places))
         limits, value = asked.limits(until, changes), None
         if self.predicate is not None:
             value = value_at(read_predicate(self.predicate, self.net.names), chosen)
@@ -194,7 +177,7 @@ class Protocol:
             carry_out_by_kernel(run, limits, value, watch)
         else:
             carry_out(run, limits, value, watch)
-        return _run(run, recorder.curve(run, self._loaded.name, "", seed), value)
+        return run_of(run, recorder.curve(run, self._loaded.name, "", seed), value)
 
     def ensemble(
         self,
@@ -282,7 +265,7 @@ class Protocol:
 
     def explain(self) -> str:
         """Layers, trees and facts by names, with the program's line first."""
-        _ready()
+        needs_program()
         from ..show.drawing import drawn
         from ..show.explaining import bundle_to_explain, explain
 
@@ -300,78 +283,7 @@ class Protocol:
         return f"<pre>{escape(self.text())}</pre>"
 
 
-def _run(run: Simulation, curve: Curve, value: bool | None) -> Run:
-    """A simulation at its end."""
-    return Run(
-        crowd={run.reactions.name(word): k for word, k in run.crowd().items()},
-        agents=run.agents,
-        meetings=run.meetings,
-        changes=run.changes,
-        last_change=run.last_change,
-        agreed=run.since,
-        output=run.output,
-        terminal=run.is_terminal,
-        ended=str(run.ended),
-        right=None if value is None else run.output == value,
-        times=curve.places,
-        curves={name: [row[i] for row in curve.rows] for i, name in enumerate(curve.names)},
-    )
-
-
 def _verdict(answer: program.Answer) -> Verdict:
     claim = answer.claim
     bound = claim.bound if claim else None
     return Verdict(answer.first_line, claim.is_certified, bound, claim.is_stable, claim.is_tame)
-
-
-def load(path: str) -> Protocol:
-    """The protocol of a file: `.pop`, a net or a bundle in JSON."""
-    return Protocol(asked.one_file(path))
-
-
-def compile(predicate: str, helpers: bool = True, way: str = "smallest") -> Protocol:
-    """A protocol for a predicate, with its proof: the smaller of the program's net and a succinct one, certified.
-
-    Or `way` says which: "quick", "succinct", "plain" or "flocks". Without helpers where `helpers` is false; InputFault
-    where there is none within the limits.
-    """
-    _ready()
-    form, names = asked.predicate(predicate)
-    wanted = asked.way(way, helpers)
-    try:
-        made = make_bundle(names, form, wanted, Helpers.ANY if helpers else Helpers.NONE)
-    except NoLeaf as why:
-        raise InputFault(str(why)) from None
-    if made.answer.status != program.DONE:
-        raise InputFault(made.answer.first_line)
-    return Protocol.parse(made.answer.first_line, f"the net of {form}")
-
-
-def check(path: str) -> Verdict:
-    """What the program says of the bundle in a file."""
-    return load(path).check()
-
-
-def find(path: str, seconds: float = SECONDS) -> Found:
-    """Looks for a proof of the protocol in a file."""
-    return load(path).find(seconds)
-
-
-def refute(path: str, agents: int = AGENTS, seconds: float = SECONDS) -> Refuted | None:
-    """A counterexample to the protocol in a file."""
-    return load(path).refute(agents, seconds)
-
-
-def simulate(path: str, seed: int = 0, **counts: int) -> Run:
-    """One run of the protocol in a file."""
-    return load(path).simulate(seed, None, None, None, (), None, None, False, False, **counts)
-
-
-def sweep(path: str, runs: int = RUNS, **sizes: int | Iterable[int]) -> Table:
-    """Many runs of the protocol in a file."""
-    return load(path).sweep(runs, 0, False, **sizes)
-
-
-def explain(path: str) -> str:
-    """The proof in a file, by names."""
-    return load(path).explain()
